@@ -1,0 +1,94 @@
+-- "A pair call for (s, t) gives the lightest edge on the tree path, the first of equals met from s." An edge is named by the node below it.
+use Prim.Native.Nat.{ℕ, zero, suc}
+use mathlib.Core.Bool.{Bool, true, false, not, _&&_}
+use mathlib.Core.List.{List, [], _∷_, _++_, reverse}
+use lib.Dec.{ltb, eqb}
+use lib.Count.{ones}
+use Rattle.min_cut.specs.Cut.{differ}
+use Rattle.min_cut.specs.Word.{word}
+use Rattle.network.specs.Basics.{pick, at}
+use Rattle.network.specs.Checks.{Row, row, chain, accepted}
+use Rattle.cut_tree.specs.declared.Tree.{Tree}
+use Rattle.cut_tree.specs.declared.PairAnswer.{PairAnswer}
+use Rattle.cut_tree.specs.declared.PairAnswer.the-variants.{Refused, Found}
+
+-- the most parents on the way to node 0
+abbrev pub maxClimb : ℕ
+maxClimb = 63
+
+-- node i reaches node 0 by at most this many parents
+unfoldable pub reaches : List ℕ → ℕ → ℕ → Bool
+reaches parent zero i = eqb i 0
+reaches parent (suc left) i = let further = reaches parent left (at parent i) in pick (eqb i 0) true further
+
+-- the nodes from i up to node 0, without it
+unfoldable pub climb : List ℕ → ℕ → ℕ → List ℕ
+climb parent zero i = []
+climb parent (suc left) i = let further = climb parent left (at parent i) in pick (eqb i 0) [] (i ∷ further)
+
+-- whether v is one of xs
+unfoldable pub among : ℕ → List ℕ → Bool
+among v [] = false
+among v (x ∷ xs) = pick (eqb v x) true (among v xs)
+
+-- those of xs that are not among ys
+unfoldable pub without : List ℕ → List ℕ → List ℕ
+without ys [] = []
+without ys (x ∷ xs) = pick (among x ys) (without ys xs) (x ∷ without ys xs)
+
+-- the edges of the tree path, as they are met from s: up from s, and then down to t
+unfoldable pub path : List ℕ → ℕ → ℕ → List ℕ
+path parent s t =
+    let up = climb parent maxClimb s in
+    let down = climb parent maxClimb t in
+    without down up ++ reverse (without up down)
+
+-- the first of the lightest of v and xs
+unfoldable pub lightest : List ℕ → ℕ → List ℕ → ℕ
+lightest weight v [] = v
+lightest weight v (x ∷ xs) = lightest weight (pick (ltb (at weight x) (at weight v)) x v) xs
+
+unfoldable pub lightestOn : Tree → ℕ → ℕ → ℕ
+lightestOn tree s t = lightest (tree .weight) (at (path (tree .parent) s t) 0) (path (tree .parent) s t)
+
+-- the subtree of v: the nodes that reach node 0 through v
+abbrev pub under : List ℕ → ℕ → ℕ → Bool
+under parent v i = among v (climb parent maxClimb i)
+
+-- the side that holds s once the edge of v is cut: the nodes that lie as s does
+unfoldable pub sideOf : List ℕ → ℕ → ℕ → ℕ → ℕ
+sideOf parent n v s = word n (λ i. not (differ (under parent v i) (under parent v s)))
+
+unfoldable pub answer : Tree → ℕ → ℕ → ℕ → PairAnswer
+answer tree n s t =
+    let v = lightestOn tree s t in
+    let side = sideOf (tree .parent) n v s in
+    Found (at (tree .weight) v) v side (ones side)
+
+-- the checks of a pair, and those that come after them
+abbrev pub pairRows : ℕ → ℕ → ℕ → List Row → List Row
+pairRows n s t later = row (not (ltb s n && ltb t n)) 14 ∷ row (eqb s t) 15 ∷ later
+
+unfoldable pub queryOf : Tree → ℕ → ℕ → ℕ → PairAnswer
+queryOf tree n s t = accepted (chain (pairRows n s t [])) (answer tree n s t) Refused
+
+-- the paper's number and values for each case of an answer
+abbrev pub numberOf : PairAnswer → ℕ
+numberOf (Refused e) = e
+numberOf (Found w v side size) = 0
+
+abbrev pub weightOf : PairAnswer → ℕ
+weightOf (Refused e) = 0
+weightOf (Found w v side size) = w
+
+abbrev pub nodeOf : PairAnswer → ℕ
+nodeOf (Refused e) = 0
+nodeOf (Found w v side size) = v
+
+abbrev pub sideIn : PairAnswer → ℕ
+sideIn (Refused e) = 0
+sideIn (Found w v side size) = side
+
+abbrev pub sizeOf : PairAnswer → ℕ
+sizeOf (Refused e) = 0
+sizeOf (Found w v side size) = size

@@ -1,0 +1,13 @@
+pub mod Bools
+pub mod Sum
+pub mod Cut
+pub mod CutLaws
+pub mod Word
+pub mod WordLaws
+pub mod LeastCut
+pub mod Residual
+pub mod Lawful
+pub mod Uncross
+pub mod GusfieldTree
+pub mod GusfieldStep
+pub mod GusfieldPairs

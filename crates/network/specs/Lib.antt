@@ -1,0 +1,4 @@
+pub mod Basics
+pub mod Limits
+pub mod Checks
+pub mod Network

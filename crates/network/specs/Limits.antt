@@ -1,0 +1,22 @@
+-- The numbers of document 01, each said once.
+use Prim.Native.Nat.{ℕ}
+
+-- nodes (the paper's houses) of a network
+abbrev pub maxNodes : ℕ
+maxNodes = 64
+
+-- links of a network
+abbrev pub maxLinks : ℕ
+maxLinks = 256
+
+-- a capacity, in tenths of a megabit per second
+abbrev pub maxCapacity : ℕ
+maxCapacity = 1000000
+
+-- groups of seven bits in a number of the file
+abbrev pub maxGroups : ℕ
+maxGroups = 3
+
+-- a cut value: every link at its highest capacity
+abbrev pub maxValue : ℕ
+maxValue = 256000000

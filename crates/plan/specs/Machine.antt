@@ -1,0 +1,75 @@
+-- "The history as a plain machine". It sees of a call its arguments, and of a flow's buffer only the length: that is what a `Call` is.
+use Prim.Native.Nat.{ℕ, zero, suc, _+_, _-_}
+use mathlib.Core.Bool.{Bool, true, false, not, _&&_}
+use mathlib.Core.List.{List, [], _∷_, _++_}
+use lib.ListN.{length, take, set, replicate}
+use lib.Dec.{ltb, eqb}
+use Rattle.network.specs.Basics.{at}
+use Rattle.network.specs.Checks.{row, chain, accepted}
+use Rattle.network.specs.Limits.{maxLinks, maxCapacity}
+use Rattle.network.specs.declared.Network.{Network}
+use Rattle.cut_tree.specs.Path.{pairRows}
+use Rattle.plan.specs.Plan.{maxDepth, noStack, push}
+use Rattle.plan.specs.declared.Stack.{Stack}
+
+pub data Call : Type 0 where
+  change : (link capacity : ℕ) → Call
+  undo : Call
+  pair : (s t : ℕ) → Call
+  flow : (s t size : ℕ) → Call
+
+-- a link and a capacity of it
+pub record Entry : Type 0 where
+  pub link : ℕ
+  pub capacity : ℕ
+
+-- the m capacities, and the stack with its top first
+pub record State : Type 0 where
+  pub capacity : List ℕ
+  pub stack : List Entry
+
+abbrev pub begin : Network → State
+begin net = record { capacity = take (net .links) (net .capacity); stack = [] }
+
+-- the table of checks, from n, m, the machine's own state and the arguments
+unfoldable pub refusal : ℕ → ℕ → State → Call → ℕ
+refusal n m x (change k c) = chain (row (not (ltb k m)) 10 ∷ row (ltb maxCapacity c) 11 ∷ row (eqb (length (x .stack)) maxDepth) 12 ∷ [])
+refusal n m x undo = chain (row (eqb (length (x .stack)) 0) 13 ∷ [])
+refusal n m x (pair s t) = chain (pairRows n s t [])
+refusal n m x (flow s t size) = chain (pairRows n s t (row (not (eqb size m)) 16 ∷ []))
+
+abbrev pub popped : List ℕ → List Entry → State
+popped capacity [] = record { capacity = capacity; stack = [] }
+popped capacity (e ∷ es) = record { capacity = set capacity (e .link) (e .capacity); stack = es }
+
+-- an accepted call
+abbrev pub moves : State → Call → State
+moves x (change k c) =
+    record { capacity = set (x .capacity) k c; stack = record { link = k; capacity = at (x .capacity) k } ∷ x .stack }
+moves x undo = popped (x .capacity) (x .stack)
+moves x (pair s t) = x
+moves x (flow s t size) = x
+
+unfoldable pub next : Network → State → Call → State
+next net x call = accepted (refusal (net .nodes) (net .links) x call) (moves x call) (λ e. x)
+
+-- after a list of calls, and the numbers that it gives
+unfoldable pub state : Network → State → List Call → State
+state net x [] = x
+state net x (c ∷ cs) = state net (next net x c) cs
+
+unfoldable pub numbers : Network → State → List Call → List ℕ
+numbers net x [] = []
+numbers net x (c ∷ cs) = refusal (net .nodes) (net .links) x c ∷ numbers net (next net x c) cs
+
+-- ---- the machine's state as the plan's arrays: unused places are 0
+abbrev pub padded : List ℕ → List ℕ
+padded xs = xs ++ replicate (maxLinks - length xs) 0
+
+-- the opened network at the machine's capacities
+abbrev pub networkAt : Network → List ℕ → Network
+networkAt net capacity = record { nodes = net .nodes; links = net .links; a = net .a; b = net .b; capacity = padded capacity }
+
+unfoldable pub stackOf : List Entry → Stack
+stackOf [] = noStack
+stackOf (e ∷ es) = push (stackOf es) (e .link) (e .capacity)

@@ -1,0 +1,29 @@
+-- "Headroom": its text. Twelve bytes, right-aligned with spaces: a minus only below zero, the whole megabits without leading zeros, a point,
+-- one digit of tenths.
+use Prim.Native.Nat.{ℕ, zero, suc, _+_, _-_, _/_, _%_}
+use mathlib.Core.List.{List, [], _∷_, _++_}
+use lib.ListN.{length, replicate}
+use lib.Dec.{ltb}
+use lib.IntN.{ℤ, pos, negsuc, natAbs}
+use Rattle.network.specs.Basics.{pick}
+
+-- the decimal digits of n without leading zeros, as bytes; at most this many
+unfoldable pub digits : ℕ → ℕ → List ℕ
+digits zero n = []
+digits (suc left) n = let front = digits left (n / 10) in pick (ltb n 10) ((48 + n) ∷ []) (front ++ ((48 + n % 10) ∷ []))
+
+-- spaces, so that the bytes end at place w
+abbrev pub rightAligned : ℕ → List ℕ → List ℕ
+rightAligned w xs = replicate (w - length xs) 32 ++ xs
+
+-- a minus only below zero
+abbrev pub signOf : ℤ → List ℕ
+signOf (pos n) = []
+signOf (negsuc n) = 45 ∷ []
+
+abbrev pub textWidth : ℕ
+textWidth = 12
+
+-- a number of tenths
+unfoldable pub textOf : ℤ → List ℕ
+textOf z = rightAligned textWidth (signOf z ++ (digits 10 (natAbs z / 10) ++ (46 ∷ (48 + natAbs z % 10) ∷ [])))

@@ -1,0 +1,43 @@
+use cut_tree::Steps;
+use cut_tree::Tree;
+use network::Network;
+
+// Changes that can be undone: entry i is a link and the capacity that it had before; the top is entry depth - 1. Unused places are 0.
+pub struct Stack {
+    pub depth: usize,
+    pub link: [u16; 64],
+    pub capacity: [u32; 64],
+}
+
+// A network with its cut tree, the steps that made the tree, and the changes that can be undone.
+pub struct Plan {
+    pub network: Network,
+    pub tree: Tree,
+    pub steps: Steps,
+    pub stack: Stack,
+}
+
+// Replies. A number is a refusal's, or 0.
+
+pub struct Opening {
+    pub number: u32,
+    pub place: usize,
+    pub plan: Plan,
+}
+
+pub struct Changed {
+    pub number: u32,
+    pub count: u32,
+    pub plan: Plan,
+}
+
+pub struct Headroom {
+    pub number: u32,
+    pub value: i32,
+    pub text: [u8; 12],
+}
+
+pub struct Written {
+    pub number: u32,
+    pub length: usize,
+}
