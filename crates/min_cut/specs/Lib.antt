@@ -7,6 +7,7 @@ pub mod WordLaws
 pub mod LeastCut
 pub mod Residual
 pub mod Lawful
+pub mod Arcs
 pub mod Uncross
 pub mod GusfieldTree
 pub mod GusfieldStep
