@@ -61,10 +61,10 @@ module _ (net : Network) (h : networkFits net ≡ true) (j u v : ℕ) (first nex
   m256 = links-le net h
 
   first-u : getD first' u 0 ≡ j + 1
-  first-u = getD-set-same first u (j + 1) 0 (omega arith)
+  first-u = getD-set-same first u (j + 1) 0 (omega (arith, n64))
 
   next-j : getD next' j 0 ≡ getD first u 0
-  next-j = getD-set-same next j (getD first u 0) 0 (omega arith)
+  next-j = getD-set-same next j (getD first u 0) 0 (omega (arith, m256))
 
   fl : (x : ℕ) → x < net .nodes → Dec (x ≡ u) → Leaves net x (j + 1) (getD first' x 0)
   fl x lx (yes e) = rw (e, first-u) (record { under = omega arith; from = λ p. ap (tail (graph net)) (add-sub j) ∙ sym eu })
@@ -91,7 +91,7 @@ module _ (net : Network) (h : networkFits net ≡ true) (j u v : ℕ) (first nex
   na e i le li d (no q) = rw (getD-set-other next j e (getD first u 0) 0 q) (c .next-last e i (omega arith) li d)
 
   ld : (e : ℕ) → e < j + 1 → Dec (e ≡ j) → getD to' e 0 ≡ tip (graph net) e
-  ld e le (yes q) = rw (q, getD-set-same to j v 0 (omega arith)) ev
+  ld e le (yes q) = rw (q, getD-set-same to j v 0 (omega (arith, m256))) ev
   ld e le (no q) = rw (getD-set-other to j e v 0 q) (c .leads e (omega arith))
 
   pub chains-more : Chains net (j + 1) (set first u (j + 1)) (set next j (getD first u 0)) (set to j v)
