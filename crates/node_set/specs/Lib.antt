@@ -1,1 +1,4 @@
 pub mod Set
+pub mod BitLaws
+pub mod SetLaws
+pub mod SizeLaws
