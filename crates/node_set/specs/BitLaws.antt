@@ -11,10 +11,11 @@ use borrow.Author.Tests.{eq-eqb, ne-eqb, lt-ltb, le-ltb}
 use Rattle.min_cut.specs.Cut.{differ}
 use Rattle.min_cut.specs.Word.{holds}
 use Rattle.min_cut.specs.WordLaws.{holds-out}
+use Rattle.node_set.specs.Set.{width}
 
 -- what the code's `1 << i` is
-pub one-shifted : (i : ℕ) → i < 64 → (1 * 2 ^ i) % 2 ^ 64 ≡ 2 ^ i
-one-shifted i l = shl-exact 1 i 64 (lit< tt) (omega arith) ∙ one-mul (2 ^ i)
+pub one-shifted : (i : ℕ) → i < width → (1 * 2 ^ i) % 2 ^ width ≡ 2 ^ i
+one-shifted i l = shl-exact 1 i width (lit< tt) (omega arith) ∙ one-mul (2 ^ i)
 
 -- ---- and, or, xor
 digits : (P : ℕ → ℕ → Type 0) → P 0 0 → P 0 1 → P 1 0 → P 1 1 → (a b : ℕ) → a < 2 → b < 2 → P a b

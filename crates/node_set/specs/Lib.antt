@@ -2,3 +2,4 @@ pub mod Set
 pub mod BitLaws
 pub mod SetLaws
 pub mod SizeLaws
+pub mod Examples

@@ -8,6 +8,10 @@ use lib.Dec.{eqb}
 use Rattle.min_cut.specs.Sum.{sum}
 use Rattle.min_cut.specs.Word.{bit, holds}
 
+-- how many nodes a word has room for
+abbrev pub width : ℕ
+width = 64
+
 unfoldable pub empty : ℕ
 empty = 0
 
@@ -49,7 +53,7 @@ included x y = eqb (bitAnd x y) x
 pub record Lowest (x r : ℕ) : Type 0 where
   pub here : holds x r ≡ true
   pub none : (j : ℕ) → j < r → holds x j ≡ false
-  pub small : r < 64
+  pub small : r < width
 
 -- r is the number of nodes of x, whichever nodes it is taken among, and the number of ones of the word
 pub record Counted (x r : ℕ) : Type 0 where

@@ -11,7 +11,7 @@ use Rattle.min_cut.specs.Bools.{bool1}
 use Rattle.min_cut.specs.Sum.{sum, sum-at, sum-zero}
 use Rattle.min_cut.specs.Word.{bit, holds}
 use Rattle.min_cut.specs.WordLaws.{holds-out}
-use Rattle.node_set.specs.Set.{empty, added, removed, size, Lowest, Counted}
+use Rattle.node_set.specs.Set.{width, empty, added, removed, size, Lowest, Counted}
 use Rattle.node_set.specs.SetLaws.{holds-empty, added-same, added-other, removed-same, removed-other, removed-less}
 
 -- ---- the size is the number of ones
@@ -82,8 +82,14 @@ unfolding trailingZeros
 lowest-bit zero x p l = absurd (omega arith)
 lowest-bit (suc k) x p l = lowest-at x (trailingZeros k (x / 2)) (x % 2) refl (omega arith) (λ e. lowest-bit k (x / 2) (omega arith) (omega arith))
 
-pub lowest-is : (x : ℕ) → 0 < x → x < 2 ^ 64 → Lowest x (trailingZeros 64 x)
-lowest-is x p l = let b = lowest-bit 64 x p l in record { here = b .0; none = b .1; small = member-lt 64 x _ l (b .0) }
+pub lowest-is : (x : ℕ) → 0 < x → x < 2 ^ width → Lowest x (trailingZeros width x)
+lowest-is x p l = let b = lowest-bit width x p l in record { here = b .0; none = b .1; small = member-lt width x _ l (b .0) }
+
+lowest-le : (x r s : ℕ) → Lowest x r → Lowest x s → r ≤ s
+lowest-le x r s p q = omega (arith, lt-of-not-le {n = suc s} (λ l. true≢false (sym (q .here) ∙ p .none s l)))
+
+pub lowest-unique : (x r s : ℕ) → Lowest x r → Lowest x s → r ≡ s
+lowest-unique x r s p q = omega (arith, lowest-le x r s p q, lowest-le x s r q p)
 
 -- what a loop over a set by its lowest node needs: the node is below n, and what is left is less, and below 2 ^ n
 pub lowest-lt : (n x r : ℕ) → x < 2 ^ n → Lowest x r → r < n

@@ -3,8 +3,6 @@ use Rattle.min_cut.specs.WordLaws.{holds-shift}
 use borrow.Author.Needs.{needs}
 use Rattle.node_set.proofs.contains.Statement.{statement}
 use Rattle.node_set.proofs.contains.Tie as tie
-use Rattle.node_set.proofs.contains.Reads as reads
-use Rattle.node_set.proofs.contains.Lts as lts
 
 shr-result : tie.Need-shr-result
 shr-result c = search needs

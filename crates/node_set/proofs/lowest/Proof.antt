@@ -3,8 +3,6 @@ use lib.Count.{trailing-le}
 use Rattle.node_set.specs.SizeLaws.{lowest-is}
 use Rattle.node_set.proofs.lowest.Statement.{statement}
 use Rattle.node_set.proofs.lowest.Tie as tie
-use Rattle.node_set.proofs.lowest.Reads as reads
-use Rattle.node_set.proofs.lowest.Lts as lts
 
 cast-result : tie.Need-cast-result
 cast-result c = omega (arith, trailing-le 64 (c .args .x))

@@ -3,8 +3,6 @@ use Rattle.node_set.specs.BitLaws.{one-shifted}
 use borrow.Author.Needs.{needs}
 use Rattle.node_set.proofs.remove.Statement.{statement}
 use Rattle.node_set.proofs.remove.Tie as tie
-use Rattle.node_set.proofs.remove.Reads as reads
-use Rattle.node_set.proofs.remove.Lts as lts
 
 shl-result : tie.Need-shl-result
 shl-result c = search needs

@@ -1,8 +1,6 @@
 use Rattle.node_set.specs.SizeLaws.{counted}
 use Rattle.node_set.proofs.size.Statement.{statement}
 use Rattle.node_set.proofs.size.Tie as tie
-use Rattle.node_set.proofs.size.Reads as reads
-use Rattle.node_set.proofs.size.Lts as lts
 
 returns : tie.Need-returns
 returns c = counted (c .args .x)
