@@ -7,6 +7,9 @@ pub mod WordLaws
 pub mod LeastCut
 pub mod Residual
 pub mod Lawful
+pub mod IntParts
+pub mod OutflowLaws
+pub mod MaxFlow
 pub mod Arcs
 pub mod Uncross
 pub mod GusfieldTree
