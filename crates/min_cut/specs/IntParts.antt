@@ -1,10 +1,11 @@
 -- A whole number by its two parts, of which one is 0: sums of signed numbers become equations of natural ones.
 use mathlib.Core.Path.{_≡_, refl, sym, ap}
 use mathlib.Core.Bool.{Bool, true, false, cond}
-use Prim.Native.Nat.{ℕ, zero, suc, _+_, _-_, min}
+use Prim.Native.Nat.{ℕ, zero, suc, _+_, _-_, _≤_, min}
 use native.Mathlib.Omega.{arith}
-use lib.Dec.{ltb}
+use lib.Dec.{ltb, le→leb}
 use lib.IntN.{ℤ, pos, negsuc, natAbs, negℤ, subℕ, _+ℤ_, _-ℤ_}
+use lib.Signed.{_≤ℤ_, leZ-yes}
 use borrow.Author.Tests.{ltb-true, ltb-false}
 
 -- z above 0
@@ -53,3 +54,7 @@ same-parts (negsuc a) (negsuc b) e = ap negsuc (omega arith)
 pub one-part : (z : ℤ) → min (above z) (under z) ≡ 0
 one-part (pos n) = omega arith
 one-part (negsuc n) = omega arith
+
+pub le-parts : (z : ℤ) (c : ℕ) → above z ≤ under z + c → z ≤ℤ pos c
+le-parts (pos n) c h = leZ-yes (le→leb n c (omega arith))
+le-parts (negsuc n) c h = leZ-yes tt
