@@ -1,5 +1,6 @@
 pub mod Bools
 pub mod Sum
+pub mod Put
 pub mod Cut
 pub mod CutLaws
 pub mod Word
