@@ -8,4 +8,5 @@ pub mod SearchLaws
 pub mod Scan
 pub mod Push
 pub mod Augment
+pub mod Signed
 pub mod LinkFlows

@@ -32,7 +32,7 @@ pub fn neighbours(net: Network) -> [u64; MAX_NODES]
 }
 
 // the nodes from which an arc leads to one of `ring`; into[v] has those from which one leads to v
-fn before(into: &[u64; MAX_NODES], ring: u64) -> u64 {
+fn leading_to(into: &[u64; MAX_NODES], ring: u64) -> u64 {
     let mut all: u64 = 0;
     let mut rest = ring;
     while rest > 0 {
@@ -53,7 +53,7 @@ pub fn sweep(into: &[u64; MAX_NODES], s: usize, t: usize, closer: &mut [u64; MAX
     closer[0] = 0;
     closer[1] = seen;
     for l in 1..MAX_NODES - 1 {
-        let wide = before(into, ring);
+        let wide = leading_to(into, ring);
         if contains(wide, s) {
             return l;
         }

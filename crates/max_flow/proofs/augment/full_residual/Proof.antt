@@ -1,49 +1,55 @@
+-- `full_residual` gives each link its capacity each way.
+use Prim.Native.Nat.{ℕ, _+_, _-_, _*_, _/_, _%_, _^_, _<_, _≤_}
+use native.Mathlib.Omega.{arith}
+use borrow.Author.Needs.{needs}
+use mathlib.Core.Path.{_≡_}
+use native.Mathlib.Numerals.{add-one}
+use Rattle.network.specs.Limits.{maxLinks}
+use Rattle.network.specs.NetworkLaws.{links-le}
+use Rattle.max_flow.specs.Residuals.{fullUpTo}
 use Rattle.max_flow.proofs.augment.full_residual.Statement.{statement}
 use Rattle.max_flow.proofs.augment.full_residual.Tie as tie
-use Rattle.max_flow.proofs.augment.full_residual.Reads as reads
-use Rattle.max_flow.proofs.augment.full_residual.Lts as lts
 
 abbrev Inv-loop : tie.InvT-loop
-Inv-loop net m residual₀ k₀ residual k = ?
+Inv-loop net m residual₀ k₀ residual k = (k ≤ m) × (residual ≡ fullUpTo net k)
 
 abbrev μ-loop : tie.MeasureT-loop
-μ-loop net m residual₀ k₀ residual k = ?
+μ-loop net m residual₀ k₀ residual k = m - k
 
--- src/augment.rt:30:5
+link-lt : (c : tie.In-loop Inv-loop μ-loop) → c .before .loop .k < maxLinks
+link-lt c = omega (arith, links-le (c .before .before .args .t1) (c .before .before .pre))
+
 loop-holds : tie.Need-loop-holds Inv-loop μ-loop
-loop-holds c = ?
+unfolding fullUpTo
+loop-holds c = (search needs, search needs)
 
--- src/augment.rt:31:17
 mul-c : tie.Need-mul-c Inv-loop μ-loop
-mul-c c = ?
+mul-c c = omega (arith, link-lt c)
 
--- src/augment.rt:31:17
 element-copy-out-c : tie.Need-element-copy-out-c Inv-loop μ-loop
-element-copy-out-c c = ?
+element-copy-out-c c = link-lt c
 
--- src/augment.rt:33:9
 mul-residual : tie.Need-mul-residual Inv-loop μ-loop
-mul-residual c = ?
+mul-residual c = omega (arith, link-lt (c .before))
 
--- src/augment.rt:33:9
 array-set-from-residual : tie.Need-array-set-from-residual Inv-loop μ-loop
-array-set-from-residual c = ?
+array-set-from-residual c = link-lt (c .before)
 
--- src/augment.rt:30:9
 add-k : tie.Need-add-k Inv-loop μ-loop
-add-k c = ?
+add-k c = omega arith
 
--- src/augment.rt:30:5
 loop-less : tie.Need-loop-less Inv-loop μ-loop
-loop-less c = ?
+loop-less c = omega arith
 
--- src/augment.rt:30:5
 loop-again : tie.Need-loop-again Inv-loop μ-loop
-loop-again c = ?
+unfolding fullUpTo
+loop-again c = (omega arith, rw (add-one, c .before .before .loop .inv .1))
 
--- src/augment.rt:24:1
 returns : tie.Need-returns Inv-loop μ-loop
-returns c = ?
+returns c =
+    let l = c .before .loop in
+    let e : l .k ≡ c .before .before .args .t1 .links = omega arith in
+    rw e at (l .inv .1)
 
 pub full-residual-spec : {M : Type 1} → statement M
 full-residual-spec =

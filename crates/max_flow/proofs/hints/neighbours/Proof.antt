@@ -1,90 +1,92 @@
+-- `neighbours` joins the ends of one link after another.
+use Prim.Native.Nat.{ℕ, _+_, _-_, _*_, _/_, _%_, _^_, _<_, _≤_}
+use native.Mathlib.Omega.{arith}
+use borrow.Author.Needs.{needs}
+use mathlib.Core.Path.{_≡_}
+use native.Mathlib.Numerals.{add-one}
+use Rattle.network.specs.Basics.{at}
+use Rattle.network.specs.Limits.{maxNodes, maxLinks}
+use Rattle.network.specs.NetworkLaws.{nodes-le, links-le, ends-within}
+use Rattle.max_flow.specs.Neighbours.{neighboursUpTo}
 use Rattle.max_flow.proofs.hints.neighbours.Statement.{statement}
 use Rattle.max_flow.proofs.hints.neighbours.Tie as tie
-use Rattle.max_flow.proofs.hints.neighbours.Reads as reads
-use Rattle.max_flow.proofs.hints.neighbours.Lts as lts
-use Rattle.node_set.proofs.add.Reads as add-reads
 
 abbrev Inv-loop : tie.InvT-loop
-Inv-loop net m near₀ k₀ near k = ?
+Inv-loop net m near₀ k₀ near k = (k ≤ m) × (near ≡ neighboursUpTo net k)
 
 abbrev μ-loop : tie.MeasureT-loop
-μ-loop net m near₀ k₀ near k = ?
+μ-loop net m near₀ k₀ near k = m - k
 
--- src/hints.rt:25:5
+link-lt : (c : tie.In-loop Inv-loop μ-loop) → c .before .loop .k < maxLinks
+link-lt c = omega (arith, links-le (c .before .before .args .t1) (c .before .before .pre))
+
+ends-lt : (c : tie.In-loop Inv-loop μ-loop) → (at (c .before .before .args .t1 .a) (c .before .loop .k) < maxNodes) × (at (c .before .before .args .t1 .b) (c .before .loop .k) < maxNodes)
+ends-lt c =
+    let net = c .before .before .args .t1 in
+    let ends = ends-within net (c .before .before .pre) (c .before .loop .k) (c .loop-test .taken) in
+    (omega (arith, ends, nodes-le net (c .before .before .pre)), omega (arith, ends, nodes-le net (c .before .before .pre)))
+
 loop-holds : tie.Need-loop-holds Inv-loop μ-loop
-loop-holds c = ?
+unfolding neighboursUpTo
+loop-holds c = (search needs, search needs)
 
--- src/hints.rt:26:17
 element-copy-out-u : tie.Need-element-copy-out-u Inv-loop μ-loop
-element-copy-out-u c = ?
+element-copy-out-u c = link-lt c
 
--- src/hints.rt:26:17
 cast-u : tie.Need-cast-u Inv-loop μ-loop
-cast-u c = ?
+cast-u c = omega (arith, ends-lt (c .before))
 
--- src/hints.rt:27:17
 element-copy-out-v : tie.Need-element-copy-out-v Inv-loop μ-loop
-element-copy-out-v c = ?
+element-copy-out-v c = link-lt (c .before)
 
--- src/hints.rt:27:17
 cast-v : tie.Need-cast-v Inv-loop μ-loop
-cast-v c = ?
+cast-v c = omega (arith, ends-lt (c .before .before))
 
--- src/hints.rt:28:23
 mul-add : tie.Need-mul-add Inv-loop μ-loop
-mul-add c = ?
+mul-add c = omega (arith, ends-lt (c .before .before))
 
--- src/hints.rt:28:23
 array-read-add : tie.Need-array-read-add Inv-loop μ-loop
-array-read-add c = ?
+array-read-add c = ends-lt (c .before .before) .0
 
--- src/hints.rt:28:19
 add-requires : tie.Need-add-requires Inv-loop μ-loop
-add-requires c κs = ?
+add-requires c κs = ends-lt (c .before .before) .1
 
--- src/hints.rt:28:9
 mul-near : tie.Need-mul-near Inv-loop μ-loop
-mul-near c = ?
+mul-near c = omega (arith, ends-lt (c .before .before .before))
 
--- src/hints.rt:28:9
 array-write-near : tie.Need-array-write-near Inv-loop μ-loop
-array-write-near c = ?
+array-write-near c = ends-lt (c .before .before .before) .0
 
--- src/hints.rt:29:23
 mul-add-2 : tie.Need-mul-add-2 Inv-loop μ-loop
-mul-add-2 c = ?
+mul-add-2 c = omega (arith, ends-lt (c .before .before .before))
 
--- src/hints.rt:29:23
 array-read-add-2 : tie.Need-array-read-add-2 Inv-loop μ-loop
-array-read-add-2 c = ?
+array-read-add-2 c = ends-lt (c .before .before .before) .1
 
--- src/hints.rt:29:19
 add-requires-2 : tie.Need-add-requires-2 Inv-loop μ-loop
-add-requires-2 c κs = ?
+add-requires-2 c κs = ends-lt (c .before .before .before) .0
 
--- src/hints.rt:29:9
 mul-near-2 : tie.Need-mul-near-2 Inv-loop μ-loop
-mul-near-2 c = ?
+mul-near-2 c = omega (arith, ends-lt (c .before .before .before .before))
 
--- src/hints.rt:29:9
 array-write-near-2 : tie.Need-array-write-near-2 Inv-loop μ-loop
-array-write-near-2 c = ?
+array-write-near-2 c = ends-lt (c .before .before .before .before) .1
 
--- src/hints.rt:25:9
 add-k : tie.Need-add-k Inv-loop μ-loop
-add-k c = ?
+add-k c = omega arith
 
--- src/hints.rt:25:5
 loop-less : tie.Need-loop-less Inv-loop μ-loop
-loop-less c = ?
+loop-less c = omega arith
 
--- src/hints.rt:25:5
 loop-again : tie.Need-loop-again Inv-loop μ-loop
-loop-again c = ?
+unfolding neighboursUpTo
+loop-again c = (omega arith, rw (add-one, c .add2 .ensures, c .before .add .ensures, c .before .before .before .before .before .loop .inv .1))
 
--- src/hints.rt:19:1
 returns : tie.Need-returns Inv-loop μ-loop
-returns c = ?
+returns c =
+    let l = c .before .loop in
+    let e : l .k ≡ c .before .before .args .t1 .links = omega arith in
+    rw e at (l .inv .1)
 
 pub neighbours-spec : {M : Type 1} → statement M
 neighbours-spec =
