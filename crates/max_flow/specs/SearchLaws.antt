@@ -250,8 +250,7 @@ module _ (net : Network) (r : List (List ℕ)) (s : ℕ) (w : SearchTree) (f : T
       given : TreeFrom net r s (grown w i e x d) × (at (set (w .node) (w .count) x) (w .count + 1 - 1) ≡ x)
       given =
           let q = lesser-fits (roomOn r e) (at (w .bottleneck) i) p (f .flows i il) in
-          let xl : x < net .nodes = omega (arith, ex, tip-lt net h e el) in
-          (
+          let xl : x < net .nodes = omega (arith, ex, tip-lt net h e el) in (
             grown-tree net r s w h f i e x d il el et (sym ex) xl new (omega (arith, q .0, ed)) (omega (arith, q .1, ed)) (omega (arith, q .2, ed)),
             last-new net r s w h f i e x d il el et (sym ex) xl new (omega (arith, q .0, ed)) (omega (arith, q .1, ed)) (omega (arith, q .2, ed)),
           )

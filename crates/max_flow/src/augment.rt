@@ -2,13 +2,13 @@
 use crate::Cut;
 use crate::hints::note_sent;
 use crate::hints::sweep;
-use network::MAX_ARCS;
+use crate::search::SearchTree;
+use crate::search::search;
+use network::Incidence;
 use network::MAX_LINKS;
 use network::MAX_NODES;
 use network::Network;
 use node_set::contains;
-use crate::search::search;
-use crate::search::SearchTree;
 ghost use mathlib.Core.Bool.{true, cond};
 ghost use mathlib.Core.Path.{_≡_};
 ghost use Prim.Native.Nat.{ℕ, _+_, _*_, _<_, _≤_};
@@ -61,7 +61,12 @@ fn push(tree: SearchTree, into: &mut [u64; MAX_NODES], residual: &mut [[u32; 2];
         let y = residual[k][1];
         let row = row_after(x, y, e, d);
         residual[k] = row;
-        note_sent(into, tree.node[f] as usize, tree.node[i] as usize, row[e % 2]);
+        note_sent(
+            into,
+            tree.node[f] as usize,
+            tree.node[i] as usize,
+            row[e % 2],
+        );
         i = f;
     }
     d
@@ -70,23 +75,24 @@ fn push(tree: SearchTree, into: &mut [u64; MAX_NODES], residual: &mut [[u32; 2];
 // Flow is sent along one augmenting path after another until no search reaches t. What was reached then is the least minimum cut.
 // `near` is a hint. The network whose arcs and residual capacities these are is named in the contract, and not handed over.
 pub fn augment(
-    first: &[u16; MAX_NODES],
-    next: &[u16; MAX_ARCS],
-    to: &[u8; MAX_ARCS],
+    arcs: Incidence,
     near: [u64; MAX_NODES],
     residual: &mut [[u32; 2]; MAX_LINKS],
     s: usize,
     t: usize,
 ) -> Cut
-    requires { ⌜ ((net : Network) × Ready net (now first) (now next) (now to) s t × (now residual ≡ fullResidual net)) ⌝ }
-    ensures { λ r. ⌜ ((net : Network) → Ready net (now (first .entry)) (now (next .entry)) (now (to .entry)) s t → now (residual .entry) ≡ fullResidual net → Augmented net s t r (now (residual .exit))) ⌝ }
+    requires { ⌜ ((net : Network) × Ready net (arcs .first) (arcs .next) (arcs .to) s t × (now residual ≡ fullResidual net)) ⌝ }
+    ensures { λ r. ⌜ ((net : Network) → Ready net (arcs .first) (arcs .next) (arcs .to) s t → now (residual .entry) ≡ fullResidual net → Augmented net s t r (now (residual .exit))) ⌝ }
 {
+    let first = arcs.first;
+    let next = arcs.next;
+    let to = arcs.to;
     let mut into = near;
     let mut closer = [0u64; MAX_NODES];
     let mut total: u32 = 0;
     loop {
         let level = sweep(&into, s, t, &mut closer);
-        let tree = search(first, next, to, *residual, s, t, &closer, level);
+        let tree = search(&first, &next, &to, *residual, s, t, &closer, level);
         if !contains(tree.reached, t) {
             return Cut {
                 side: tree.reached,

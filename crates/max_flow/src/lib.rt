@@ -7,10 +7,10 @@ use crate::augment::augment;
 use crate::augment::full_residual;
 pub use crate::hints::neighbours;
 use network::Incidence;
-use network::incidence_of;
 use network::MAX_LINKS;
 use network::MAX_NODES;
 use network::Network;
+use network::incidence_of;
 ghost use lib.IntN.{pos};
 ghost use lib.ListN.{length};
 ghost use mathlib.Core.Path.{_≡_};
@@ -26,15 +26,18 @@ pub struct Cut {
 }
 
 // The least minimum cut, for a caller that asks for many of one network: `arcs` and the hint `near` are made once.
-pub fn least_cut_by(net: Network, arcs: Incidence, near: [u64; MAX_NODES], s: usize, t: usize) -> Cut
+pub fn least_cut_by(
+    net: Network,
+    arcs: Incidence,
+    near: [u64; MAX_NODES],
+    s: usize,
+    t: usize,
+) -> Cut
     requires { ⌜ Ready net (arcs .first) (arcs .next) (arcs .to) s t ⌝ }
     ensures { λ r. ⌜ r ≡ leastCutOf net s t ⌝ }
 {
-    let first = arcs.first;
-    let next = arcs.next;
-    let to = arcs.to;
     let mut residual = full_residual(net);
-    augment(&first, &next, &to, near, &mut residual, s, t)
+    augment(arcs, near, &mut residual, s, t)
 }
 
 // The least minimum cut of (s, t) (document 01: the least side), with its value.
@@ -68,11 +71,8 @@ pub fn lawful_flow(net: Network, s: usize, t: usize, out: &mut [i32])
 {
     let arcs = incidence_of(net);
     let near = neighbours(net);
-    let first = arcs.first;
-    let next = arcs.next;
-    let to = arcs.to;
     let mut residual = full_residual(net);
-    let cut = augment(&first, &next, &to, near, &mut residual, s, t);
+    let cut = augment(arcs, near, &mut residual, s, t);
     let capacity = net.capacity;
     write_flow(capacity, residual, out);
 }

@@ -83,8 +83,7 @@ cast-e c = omega (arith, at-place (c .before .before) .chain)
 loop-holds : tie.Need-loop-holds Inv-loop μ-loop Inv-search μ-search
 loop-holds c =
     let st = c .before .before .before .before .before in
-    let o = c .before .before .before .search in
-    (
+    let o = c .before .before .before .search in (
       refl,
       omega arith,
       λ net a. inner-start net (st .args .first .now) (st .args .next .now) (st .args .to .now) (st .args .t4) (st .args .s) (st .args .t) a (o .tree) (o .i) (o .p) _ _ (o .inv net a) (c .before .before .search-test .taken) refl refl,
@@ -201,25 +200,24 @@ loop-again c =
     let st = c .before .before .before .before .before .before .before .before .before .before .before in
     let o = c .before .before .before .before .before .before .before .before .before .search in
     let l = c .before .before .before .before .before .loop in
-    let held = c .before .before .contains .ensures in
-    (
+    let held = c .before .before .contains .ensures in (
       l .inv .0,
       ⊎-elim
-      (λ w. let q = ap (λ (v : SearchTree). v .count) (w .10) in omega (arith, l .inv .1))
-      (⊎-elim
-      (λ w. let q = ap (λ (v : SearchTree). v .count) (w .3) in omega (arith, l .inv .1))
-      (λ w. let q = ap (λ (v : SearchTree). v .count) (w .1) in omega (arith, l .inv .1)))
-      (c .before .if1 .came),
+          (λ w. let q = ap (λ (v : SearchTree). v .count) (w .10) in omega (arith, l .inv .1))
+          (⊎-elim
+          (λ w. let q = ap (λ (v : SearchTree). v .count) (w .3) in omega (arith, l .inv .1))
+          (λ w. let q = ap (λ (v : SearchTree). v .count) (w .1) in omega (arith, l .inv .1)))
+          (c .before .if1 .came),
       λ net a.
-      ⊎-elim
-      (λ w.
-      next-new net (st .args .first .now) (st .args .next .now) (st .args .to .now) (st .args .t4) (st .args .s) (st .args .t) a (l .tree) (o .i) (l .p) _ (l .e) (l .inv .2 net a) (c .before .before .before .before .loop-test .taken)
-      _ (w .5 .ensures) (w .2 .taken) (sym held ∙ not-true _ (w .0 .taken)) _
-      (w .10 ∙ ap (grownBy (l .tree) (l .p) (l .e - 1) (at (st .args .to .now) (l .e - 1)) (w .5 .result)) (w .3 .ensures)) (w .6 .left))
-      (⊎-elim
-      (λ w. next-full net (st .args .first .now) (st .args .next .now) (st .args .to .now) (st .args .t4) (st .args .s) (st .args .t) a (l .tree) (o .i) (l .p) _ (l .e) (l .inv .2 net a) (c .before .before .before .before .loop-test .taken) (w .2 .left) _ (w .3))
-      (λ w. next-held net (st .args .first .now) (st .args .next .now) (st .args .to .now) (st .args .t4) (st .args .s) (st .args .t) a (l .tree) (o .i) (l .p) _ (l .e) (l .inv .2 net a) (c .before .before .before .before .loop-test .taken) (sym held ∙ not-false _ (w .0 .left)) _ (w .1)))
-      (c .before .if1 .came),
+          ⊎-elim
+          (λ w.
+          next-new net (st .args .first .now) (st .args .next .now) (st .args .to .now) (st .args .t4) (st .args .s) (st .args .t) a (l .tree) (o .i) (l .p) _ (l .e) (l .inv .2 net a) (c .before .before .before .before .loop-test .taken)
+          _ (w .5 .ensures) (w .2 .taken) (sym held ∙ not-true _ (w .0 .taken)) _
+          (w .10 ∙ ap (grownBy (l .tree) (l .p) (l .e - 1) (at (st .args .to .now) (l .e - 1)) (w .5 .result)) (w .3 .ensures)) (w .6 .left))
+          (⊎-elim
+          (λ w. next-full net (st .args .first .now) (st .args .next .now) (st .args .to .now) (st .args .t4) (st .args .s) (st .args .t) a (l .tree) (o .i) (l .p) _ (l .e) (l .inv .2 net a) (c .before .before .before .before .loop-test .taken) (w .2 .left) _ (w .3))
+          (λ w. next-held net (st .args .first .now) (st .args .next .now) (st .args .to .now) (st .args .t4) (st .args .s) (st .args .t) a (l .tree) (o .i) (l .p) _ (l .e) (l .inv .2 net a) (c .before .before .before .before .loop-test .taken) (sym held ∙ not-false _ (w .0 .left)) _ (w .1)))
+          (c .before .if1 .came),
     )
 
 past-requires : tie.Need-past-requires Inv-loop μ-loop Inv-search μ-search
