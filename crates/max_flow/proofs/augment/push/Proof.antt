@@ -54,44 +54,44 @@ element-copy-out-f c = on (c .before) .place
 cast-f : tie.Need-cast-f Inv-loop μ-loop
 cast-f c = omega (arith, on (c .before .before) .earlier, on (c .before .before) .place)
 
+element-copy-out-u : tie.Need-element-copy-out-u Inv-loop μ-loop
+element-copy-out-u c = omega (arith, on (c .before .before) .earlier, on (c .before .before) .place)
+
+cast-u : tie.Need-cast-u Inv-loop μ-loop
+cast-u c = fits-under _ _ _ (on (c .before .before .before) .tail) tt
+
+element-copy-out-v : tie.Need-element-copy-out-v Inv-loop μ-loop
+element-copy-out-v c = on (c .before .before .before) .place
+
+cast-v : tie.Need-cast-v Inv-loop μ-loop
+cast-v c = fits-under _ _ _ (on (c .before .before .before .before) .tip) tt
+
 mul-x : tie.Need-mul-x Inv-loop μ-loop
-mul-x c = omega (arith, on (c .before .before) .arc)
+mul-x c = omega (arith, on (c .before .before .before .before) .arc)
 
 index-1-x : tie.Need-index-1-x Inv-loop μ-loop
-index-1-x c = omega (arith, on (c .before .before) .arc)
+index-1-x c = omega (arith, on (c .before .before .before .before) .arc)
 
 index-2-x : tie.Need-index-2-x Inv-loop μ-loop
 index-2-x c = search needs
 
 mul-y : tie.Need-mul-y Inv-loop μ-loop
-mul-y c = omega (arith, on (c .before .before .before) .arc)
+mul-y c = omega (arith, on (c .before .before .before .before .before) .arc)
 
 index-1-y : tie.Need-index-1-y Inv-loop μ-loop
-index-1-y c = omega (arith, on (c .before .before .before) .arc)
+index-1-y c = omega (arith, on (c .before .before .before .before .before) .arc)
 
 index-2-y : tie.Need-index-2-y Inv-loop μ-loop
 index-2-y c = search needs
 
 row-after-requires : tie.Need-row-after-requires Inv-loop μ-loop
-row-after-requires c κs = on (c .before .before .before .before) .row
+row-after-requires c κs = on (c .before .before .before .before .before .before) .row
 
-mul-t18 : tie.Need-mul-t18 Inv-loop μ-loop
-mul-t18 c = omega (arith, on (c .before .before .before .before .before) .arc)
+mul-t20 : tie.Need-mul-t20 Inv-loop μ-loop
+mul-t20 c = omega (arith, on (c .before .before .before .before .before .before .before) .arc)
 
 element-set-from-residual : tie.Need-element-set-from-residual Inv-loop μ-loop
-element-set-from-residual c = omega (arith, on (c .before .before .before .before .before) .arc)
-
-element-copy-out-note-sent : tie.Need-element-copy-out-note-sent Inv-loop μ-loop
-element-copy-out-note-sent c = omega (arith, on (c .before .before .before .before .before .before) .earlier, on (c .before .before .before .before .before .before) .place)
-
-cast-note-sent : tie.Need-cast-note-sent Inv-loop μ-loop
-cast-note-sent c = fits-under _ _ _ (on (c .before .before .before .before .before .before .before) .tail) tt
-
-element-copy-out-note-sent-2 : tie.Need-element-copy-out-note-sent-2 Inv-loop μ-loop
-element-copy-out-note-sent-2 c = on (c .before .before .before .before .before .before .before) .place
-
-cast-note-sent-2 : tie.Need-cast-note-sent-2 Inv-loop μ-loop
-cast-note-sent-2 c = fits-under _ _ _ (on (c .before .before .before .before .before .before .before .before) .tip) tt
+element-set-from-residual c = omega (arith, on (c .before .before .before .before .before .before .before) .arc)
 
 mul-note-sent : tie.Need-mul-note-sent Inv-loop μ-loop
 mul-note-sent c = search needs
@@ -110,7 +110,7 @@ loop-again c =
     let st = c .before .before .before .before .before .before .before .before .before .before .before .before in
     let l = c .before .before .before .before .before .before .before .before .before .before .loop in
     λ net s a.
-    rw (c .before .before .before .before .row-after .ensures)
+    rw (c .before .before .row-after .ensures)
     (half-next net s (st .args .residual .now) (st .args .t1) a _ (l .i) (l .residual) (l .inv net s a) (c .before .before .before .before .before .before .before .before .before .loop-test .taken))
 
 returns : tie.Need-returns Inv-loop μ-loop
@@ -134,6 +134,10 @@ push-spec =
     cast-e
     element-copy-out-f
     cast-f
+    element-copy-out-u
+    cast-u
+    element-copy-out-v
+    cast-v
     mul-x
     index-1-x
     index-2-x
@@ -141,12 +145,8 @@ push-spec =
     index-1-y
     index-2-y
     row-after-requires
-    mul-t18
+    mul-t20
     element-set-from-residual
-    element-copy-out-note-sent
-    cast-note-sent
-    element-copy-out-note-sent-2
-    cast-note-sent-2
     mul-note-sent
     array-read-note-sent
     note-sent-requires
