@@ -1,11 +1,13 @@
 // Networks within the limits of document 01.
 mod blank; // unused places
+mod cut; // the value of a cut
 mod incidence; // each node's own arcs, for a search to walk
 
 pub use blank::blank_from_u8;
 pub use blank::blank_from_u16;
 pub use blank::blank_from_u32;
 pub use blank::blank_from_u64;
+pub use cut::cut_value;
 pub use incidence::Incidence;
 pub use incidence::incidence_of;
 ghost use mathlib.Core.Path.{_≡_};
