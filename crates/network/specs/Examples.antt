@@ -9,11 +9,11 @@ use Rattle.min_cut.specs.Sum.{sum}
 use Rattle.min_cut.specs.Cut.{cutValue}
 use Rattle.min_cut.specs.Word.{holds, first, leastMinCut}
 use Rattle.min_cut.specs.Lawful.{outflow, total}
-use Rattle.min_cut.specs.Arcs.{tail, tip}
-use Rattle.network.specs.Basics.{all, every, blank, blankFrom, pick}
-use Rattle.network.specs.Limits.{maxNodes, maxLinks, maxCapacity, maxValue}
+use Rattle.min_cut.specs.Arcs.{tail}
+use Rattle.network.specs.Basics.{all, every, blank, blankFrom}
+use Rattle.network.specs.Limits.{maxLinks, maxValue}
 use Rattle.network.specs.Checks.{row, chain, accepted}
-use Rattle.network.specs.Network.{linkWithin, linkFits, networkFits, noNetwork, withCapacity, graph, crossesLink, valueOf, leastSide, minCutValue, totalOf}
+use Rattle.network.specs.Network.{networkFits, noNetwork, withCapacity, graph, crossesLink, valueOf, leastSide, minCutValue, totalOf}
 use Rattle.network.specs.Incidence.{arcsFrom, walk}
 use Rattle.network.specs.declared.Network.{Network}
 

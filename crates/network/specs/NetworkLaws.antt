@@ -1,24 +1,22 @@
 -- What the limits of a network say, and that a changed capacity keeps them.
-use mathlib.Core.Path.{_≡_, refl, sym, ap, _∙_}
+use mathlib.Core.Path.{_≡_, refl, sym, _∙_}
 use mathlib.Core.Logic.{_≢_}
-use mathlib.Core.Bool.{Bool, true, false, not, true≢false, Bool·beq}
-use mathlib.Core.List.{List}
+use mathlib.Core.Bool.{Bool, true, false, true≢false, Bool·beq}
 use Prim.Native.Nat.{ℕ, zero, suc, _+_, _*_, _≤_, _<_}
 use native.Mathlib.Omega.{arith}
 use native.Mathlib.Decide.{ℕ-discrete}
 use native.Mathlib.Nat.{suc-mul}
 use native.Mathlib.Numerals.{add-one}
-use lib.ListN.{length, set, length-set}
+use lib.ListN.{length-set}
 use lib.Seq.{getD-set-same, getD-set-other, drop-set-lt}
-use lib.Dec.{ltb, leb, eqb}
 use borrow.Author.Tests.{ltb-true, leb-true, le-leb, eqb-false, not-true}
 use Rattle.min_cut.specs.Bools.{bool2}
 use Rattle.min_cut.specs.Sum.{sum}
 use Rattle.min_cut.specs.Cut.{Side, crossing, cutValue, Within}
-use Rattle.network.specs.Basics.{at, all, every}
-use Rattle.network.specs.BasicsLaws.{all-at, all-in, Every, none, _&_, shown, test, head, rest, keep}
+use Rattle.network.specs.Basics.{at}
+use Rattle.network.specs.BasicsLaws.{all-at, all-in, none, _&_, shown, test, head, rest, keep}
 use Rattle.network.specs.Limits.{maxNodes, maxLinks, maxCapacity, maxValue}
-use Rattle.network.specs.Network.{linkFits, networkFits, Sized, WithinLimits, withCapacity, graph, valueOf}
+use Rattle.network.specs.Network.{linkFits, networkFits, WithinLimits, withCapacity, graph, valueOf}
 use Rattle.network.specs.declared.Network.{Network}
 
 module _ (net : Network) (e : networkFits net ≡ true) where

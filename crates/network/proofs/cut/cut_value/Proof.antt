@@ -1,6 +1,6 @@
 -- `network::cut::cut_value` meets its contract. The loop's invariant: `value` is the side's value by the links before k.
 use mathlib.Core.Path.{_≡_, sym, ap, _∙_}
-use Prim.Native.Nat.{ℕ, _≤_, _-_, _+_}
+use Prim.Native.Nat.{_≤_, _-_, _+_}
 use native.Mathlib.Omega.{arith}
 use Rattle.min_cut.specs.Word.{holds}
 use Rattle.network.specs.NetworkLaws.{link-places, valueBefore, value-none, value-more, value-all, value-before-le}
