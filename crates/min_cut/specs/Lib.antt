@@ -11,6 +11,8 @@ pub mod Lawful
 pub mod IntParts
 pub mod OutflowLaws
 pub mod MaxFlow
+pub mod Augment
+pub mod StrongDuality
 pub mod Arcs
 pub mod Uncross
 pub mod GusfieldTree
