@@ -36,6 +36,14 @@ start G w Z = record {
   weight = λ y l m. absurd (omega arith);
 }
 
+-- a pivot is placed, and what stands below it is in its side
+module _ (G : Net) (i : ℕ) (p w : ℕ → ℕ) (Z : ℕ → Side) (r : ℕ → ℕ) (T : Tree G i p w Z r) (t : ℕ) (et : p i ≡ t) where
+  pub pivot-lt : t < i
+  pivot-lt = subst (λ k. k < i) et (T .done i)
+
+  pub pivot-below : 0 < t → (x : ℕ) → 0 < x → p x ≡ t → x ≢ t → Z t x ≡ true
+  pivot-below l x xl e n = T .down t x l pivot-lt xl n ∙ ap (Z t) e ∙ T .minimum t l pivot-lt .inside
+
 -- where x goes as s is put beside t: the neighbours of t in X go to s
 pub data Goes (p p′ : ℕ → ℕ) (X : Side) (s t x : ℕ) : Type 0 where
   along : p x ≡ t → X x ≡ true → p′ x ≡ s → Goes p p′ X s t x

@@ -16,5 +16,6 @@ pub mod StrongDuality
 pub mod Arcs
 pub mod Uncross
 pub mod GusfieldTree
+pub mod GusfieldUncross
 pub mod GusfieldStep
 pub mod GusfieldPairs
