@@ -1,13 +1,12 @@
 -- One unit more, or a closed side: nodes are reached one by one from s, each with a way to send it one unit; the way's links have both ends reached.
-use mathlib.Core.Path.{_≡_, refl, sym, ap, subst, _∙_}
+use mathlib.Core.Path.{_≡_, refl, sym, subst, _∙_}
 use mathlib.Core.Logic.{_≢_}
 use mathlib.Core.Bool.{Bool, true, false, not, _&&_, _||_, true≢false}
 use Prim.Native.Nat.{ℕ, zero, suc, _+_, _-_, _≤_, _<_}
 use native.Mathlib.Omega.{arith}
 use native.Mathlib.Decide.{ℕ-discrete}
-use lib.Dec.{eqb}
 use borrow.Author.Tests.{eqb-true, eq-eqb, ne-eqb}
-use Rattle.min_cut.specs.Bools.{bool1, bool2, bool4}
+use Rattle.min_cut.specs.Bools.{bool1, or-left, or-right}
 use Rattle.min_cut.specs.Sum.{sum, sum-at, sum-term}
 use Rattle.min_cut.specs.Put.{put, put-same, put-other}
 use Rattle.min_cut.specs.Cut.{Net, Side, _∪_, Within}
@@ -36,13 +35,6 @@ fewer : (x y u v : Bool) → (x || u) && (y || v) ≡ false → x && y ≡ false
 fewer true true u v e = e
 fewer true false u v e = refl
 fewer false y u v e = refl
-
-or-left : (x y : Bool) → x ≡ true → x || y ≡ true
-or-left x y e = rw e
-
-or-right : (x y : Bool) → y ≡ true → x || y ≡ true
-or-right true y e = refl
-or-right false y e = e
 
 module _ (G : Net) (s : ℕ) (p q : ℕ → ℕ) where
   leaves : (R : Side) (k : ℕ) → Leaves G p q R k

@@ -2,11 +2,12 @@
 use mathlib.Core.Path.{_≡_, refl, sym, ap, subst, _∙_}
 use mathlib.Core.Logic.{_≢_}
 use mathlib.Core.Bool.{Bool, true, false, not, _&&_, _||_, cond, true≢false}
-use Prim.Native.Nat.{ℕ, zero, suc, _+_, _≤_, _<_}
+use Prim.Native.Nat.{ℕ, zero, suc, _≤_, _<_}
 use native.Mathlib.Omega.{arith}
 use native.Mathlib.Decide.{ℕ-discrete}
 use lib.Dec.{ltb, eqb}
 use borrow.Author.Tests.{ltb-true, lt-ltb, eqb-true, eq-eqb}
+use Rattle.min_cut.specs.Bools.{and-both, or-right}
 use Rattle.min_cut.specs.Cut.{Net, Side, cutValue, complement, MinCut}
 use Rattle.min_cut.specs.CutLaws.{complement-minimum}
 use Rattle.min_cut.specs.Uncross.{uncrossed, uncrossed-own, uncrossed-in, uncrossed-out, uncrossed-minimum}
@@ -42,12 +43,7 @@ covered p Z t (suc j) x = (child p t j && Z j x) || covered p Z t j x
 
 child-facts : (p : ℕ → ℕ) (t j : ℕ) → child p t j ≡ true → (0 < j) × (p j ≡ t)
 unfolding child
-child-facts p t j e = go (ltb 0 j) refl (eqb (p j) t) refl
-  where
-    go : (a : Bool) → ltb 0 j ≡ a → (b : Bool) → eqb (p j) t ≡ b → (0 < j) × (p j ≡ t)
-    go true q true q′ = (ltb-true _ _ q, eqb-true _ _ q′)
-    go true q false q′ = absurd (true≢false (sym e ∙ simp (q, q′)))
-    go false q b q′ = absurd (true≢false (sym e ∙ simp q))
+child-facts p t j e = let h = and-both (ltb 0 j) (eqb (p j) t) e in (ltb-true 0 j (h .0), eqb-true (p j) t (h .1))
 
 child-is : (p : ℕ → ℕ) (t j : ℕ) → 0 < j → p j ≡ t → child p t j ≡ true
 unfolding child
@@ -146,10 +142,6 @@ module _ (G : Net) (i : ℕ) (p w : ℕ → ℕ) (Z : ℕ → Side) (r : ℕ →
       go true e true q f h = uncrossed-in (fit p Z t X k) (Z k) k x q ∙ sym (uncrossed-in (fit p Z t X k) (Z k) k (p x) (sym (same e) ∙ q))
       go true e false q f h = uncrossed-out (fit p Z t X k) (Z k) k x q ∙ f h ∙ sym (uncrossed-out (fit p Z t X k) (Z k) k (p x) (sym (same e) ∙ q))
       go false e z q f h = f h
-
-  or-right : (x y : Bool) → y ≡ true → x || y ≡ true
-  or-right true y e = refl
-  or-right false y e = e
 
   covered-base : (k x : ℕ) → 0 < t → Z t x ≡ false → covered p Z t k x ≡ true
   unfolding covered

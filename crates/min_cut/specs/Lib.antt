@@ -19,3 +19,4 @@ pub mod GusfieldTree
 pub mod GusfieldUncross
 pub mod GusfieldStep
 pub mod GusfieldPairs
+pub mod Examples
