@@ -1,3 +1,6 @@
 pub mod Rule
 pub mod Rebuild
 pub mod Path
+pub mod RuleLaws
+pub mod KeepLaws
+pub mod RebuildLaws
