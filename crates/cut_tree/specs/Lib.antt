@@ -4,3 +4,5 @@ pub mod Path
 pub mod RuleLaws
 pub mod KeepLaws
 pub mod RebuildLaws
+pub mod RuleTree
+pub mod Climbs
