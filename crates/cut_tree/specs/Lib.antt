@@ -6,3 +6,4 @@ pub mod KeepLaws
 pub mod RebuildLaws
 pub mod RuleTree
 pub mod Climbs
+pub mod RuleShape

@@ -33,7 +33,7 @@ abbrev pub Placed : Net → ℕ → Tree → Type 0
 Placed G i tree = Cut-tree G i (at (tree .parent)) (at (tree .weight))
 
 -- where every node goes, those beyond the array too: a word has no bit there
-moved-all : (X s t : ℕ) (ps : List ℕ) → length ps ≡ maxNodes → X < 2 ^ maxNodes → (x : ℕ) → at (moved X s t 0 ps) x ≡ pick (holds X x && eqb (at ps x) t) s (at ps x)
+pub moved-all : (X s t : ℕ) (ps : List ℕ) → length ps ≡ maxNodes → X < 2 ^ maxNodes → (x : ℕ) → at (moved X s t 0 ps) x ≡ pick (holds X x && eqb (at ps x) t) s (at ps x)
 moved-all X s t ps e l x = go (decLt x maxNodes)
   where
     go : Dec (x < maxNodes) → at (moved X s t 0 ps) x ≡ pick (holds X x && eqb (at ps x) t) s (at ps x)
@@ -101,7 +101,7 @@ module _ (net : Network) (e : networkFits net ≡ true) where
   pub least-lt : (s t : ℕ) → s < net .nodes → t < s → leastSide net s t < 2 ^ net .nodes
   least-lt s t l m = leastMinCut-lt (net .nodes) (graph net) s t (ends-within net e) l (omega arith) (omega arith)
 
-  steps-tree : (k : ℕ) → k < net .nodes → Placed (graph net) (suc k) (ruleBy (leastCut net) k .tree)
+  pub steps-tree : (k : ℕ) → k < net .nodes → Placed (graph net) (suc k) (ruleBy (leastCut net) k .tree)
   unfolding ruleBy stepped leastCut
   steps-tree zero l =
       let none : at (noTree .parent) ≡ (λ x. 0) = fun-ext (zeros-at maxNodes) in
