@@ -5,5 +5,5 @@ pub mod RuleLaws
 pub mod KeepLaws
 pub mod RebuildLaws
 pub mod RuleTree
-pub mod Climbs
+pub mod Depth
 pub mod RuleShape

@@ -21,7 +21,7 @@ use Rattle.cut_tree.specs.Rule.{moved, placed, stepped, ruleBy, leastCut
 use Rattle.cut_tree.specs.Path.{maxClimb, reaches}
 use Rattle.cut_tree.specs.RuleLaws.{Long, rule-long, parents-le, Recorded, rule-recorded}
 use Rattle.cut_tree.specs.RuleTree.{moved-all, least-minimum, least-lt, steps-tree, rule-tree}
-use Rattle.cut_tree.specs.Climbs.{climb-ends}
+use Rattle.cut_tree.specs.Depth.{climb-ends}
 use Rattle.cut_tree.specs.declared.Tree.{Tree}
 use Rattle.cut_tree.specs.declared.Built.{Built}
 
