@@ -7,3 +7,6 @@ pub mod RebuildLaws
 pub mod RuleTree
 pub mod Depth
 pub mod RuleShape
+pub mod Definition1
+pub mod PathLaws
+pub mod PairLaws
