@@ -10,3 +10,4 @@ pub mod RuleShape
 pub mod Definition1
 pub mod PathLaws
 pub mod PairLaws
+pub mod MaxFlowMinCut
