@@ -11,3 +11,5 @@ pub mod Definition1
 pub mod PathLaws
 pub mod PairLaws
 pub mod MaxFlowMinCut
+pub mod TreeValues
+pub mod Definition1Proof
