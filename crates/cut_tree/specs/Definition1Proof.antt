@@ -4,10 +4,8 @@ use mathlib.Core.Logic.{_≢_}
 use mathlib.Core.Bool.{Bool, true, false, not}
 use Prim.Native.Nat.{ℕ, zero, suc, _+_, _-_, _≤_, _<_}
 use native.Mathlib.Omega.{arith}
-use lib.IntN.{ℤ}
 use Rattle.min_cut.specs.Cut.{Net, Side, cutValue, complement, Separates, MinCut, Within}
 use Rattle.min_cut.specs.CutLaws.{cutValue-ext, cutValue-complement}
-use Rattle.min_cut.specs.Lawful.{MaximumFlow}
 use Rattle.network.specs.Basics.{at}
 use Rattle.network.specs.Limits.{maxNodes}
 use Rattle.network.specs.Network.{WithinLimits, graph}
@@ -40,87 +38,70 @@ separating-value G n w s t v sl tl d X e c least = go (X t) refl
     go true q = flow-value G n w s t v sl tl d (complement X) (simp (e, q)) (simp q) (cutValue-complement G X ∙ c) least
 
 module _ (net : Network) (w : WithinLimits net) (tree : Tree) (P : Placed (graph net) (net .nodes) tree) where
-  n : ℕ
+  abbrev n : ℕ
   n = net .nodes
 
-  G : Net
+  abbrev G : Net
   G = graph net
 
-  T : Net
-  T = treeNet (net .nodes) tree
+  abbrev T : Net
+  T = treeNet n tree
 
-  in-net : Within (graph net) (net .nodes)
-  in-net = ends-within net (w .fits)
-
-  in-tree : Within (treeNet (net .nodes) tree) (net .nodes)
-  in-tree k l = (omega arith, P .2 .done (suc k))
-
-  few : net .nodes ≤ maxNodes
+  few : n ≤ maxNodes
   few = nodes-le net (w .fits)
 
-  module _ (s t : ℕ) (sl : s < net .nodes) (tl : t < net .nodes) (d : s ≢ t) where
-    v : ℕ
+  in-net : Within G n
+  in-net = ends-within net (w .fits)
+
+  in-tree : Within T n
+  in-tree k l = (omega arith, P .2 .done (suc k))
+
+  module _ (s t : ℕ) (sl : s < n) (tl : t < n) (d : s ≢ t) where
+    abbrev v : ℕ
     v = lightestOn tree s t
 
-    weight : ℕ
-    weight = at (tree .weight) (lightestOn tree s t)
+    abbrev weight : ℕ
+    weight = at (tree .weight) v
 
     -- the subtree of the lightest edge
-    X : Side
-    X = under (tree .parent) (lightestOn tree s t)
+    abbrev X : Side
+    X = under (tree .parent) v
 
-    separates : Separates (under (tree .parent) (lightestOn tree s t)) s t
-    separates = lightest-separates (graph net) (net .nodes) few in-net tree P s t sl tl d
+    separates : Separates X s t
+    separates = lightest-separates G n few in-net tree P s t sl tl d
 
-    least : (W : Side) → Separates W s t → at (tree .weight) (lightestOn tree s t) ≤ cutValue (graph net) W
-    least = lightest-least (graph net) (net .nodes) few in-net tree P s t sl tl d
+    least : (W : Side) → Separates W s t → weight ≤ cutValue G W
+    least = lightest-least G n few in-net tree P s t sl tl d
 
-    least-tree : (W : Side) → Separates W s t → at (tree .weight) (lightestOn tree s t) ≤ cutValue (treeNet (net .nodes) tree) W
-    least-tree W e = omega (arith, least W e, value-le-tree (graph net) (net .nodes) in-net tree P W)
+    least-tree : (W : Side) → Separates W s t → weight ≤ cutValue T W
+    least-tree W e = omega (arith, least W e, value-le-tree G n in-net tree P W)
 
-    value-tree : cutValue (treeNet (net .nodes) tree) (under (tree .parent) (lightestOn tree s t)) ≡ at (tree .weight) (lightestOn tree s t)
+    value-tree : cutValue T X ≡ weight
     value-tree =
-        let u = lightestOn tree s t in
-        let p = lightest-node (graph net) (net .nodes) few in-net tree P s t sl tl d in
-        cutValue-ext (treeNet (net .nodes) tree) (net .nodes) in-tree (under (tree .parent) u) (P .0 u) (λ x l. under-is (graph net) (net .nodes) few in-net tree P u x (p .0) (p .1) l)
-        ∙ subtree-value (graph net) (net .nodes) in-net tree P u (p .0) (p .1)
+        let p = lightest-node G n few in-net tree P s t sl tl d in
+        cutValue-ext T n in-tree X (P .0 v) (λ x l. under-is G n few in-net tree P v x (p .0) (p .1) l) ∙ subtree-value G n in-net tree P v (p .0) (p .1)
+
+    value-in-tree : FlowValue T n s t weight
+    value-in-tree = separating-value T n in-tree s t weight sl tl d X separates value-tree least-tree
 
     equivalent : EquivalentFlow net tree s t
     equivalent =
-        let G = graph net in
-        let n = net .nodes in
-        let u = lightestOn tree s t in
         record {
           smallest = lightest-path G n few in-net tree P s t sl tl d;
-          in-network = separating-value G n in-net s t (at (tree .weight) u) sl tl d (under (tree .parent) u) separates (lightest-value G n few in-net tree P s t sl tl d) least;
-          in-tree = separating-value (treeNet n tree) n in-tree s t (at (tree .weight) u) sl tl d (under (tree .parent) u) separates value-tree least-tree;
+          in-network = separating-value G n in-net s t weight sl tl d X separates (lightest-value G n few in-net tree P s t sl tl d) least;
+          in-tree = value-in-tree;
         }
 
-    -- a minimum cut of the tree has the lightest weight as its value there, so no larger one in the network
-    same-cut : (Y : Side) → MinCut (treeNet (net .nodes) tree) s t Y → MinCut (graph net) s t Y
+    -- a minimum cut of the tree has the lightest weight as its value there, so no larger value in the network
+    same-cut : (Y : Side) → MinCut T s t Y → MinCut G s t Y
     same-cut Y y =
-        let T = treeNet (net .nodes) tree in
-        let u = lightestOn tree s t in
-        let F = separating-value T (net .nodes) in-tree s t (at (tree .weight) u) sl tl d (under (tree .parent) u) separates value-tree least-tree in
-        let R = F .cut .0 in
-        let r = F .cut .1 in
-        let e : cutValue T R ≡ at (tree .weight) u = F .cut .2 in
-        record {
-          inside = y .inside;
-          outside = y .outside;
-          least = λ W i o. omega (
-            arith,
-            e,
-            y .least R (r .inside) (r .outside),
-            value-le-tree (graph net) (net .nodes) in-net tree P Y,
-            least W (i ∙ sym (ap not o)),
-          );
-        }
+        let c = value-in-tree .cut in
+        let low : cutValue T Y ≤ cutValue T (c .0) = y .least (c .0) (c .1 .inside) (c .1 .outside) in
+        let over = value-le-tree G n in-net tree P Y in
+        record { inside = y .inside; outside = y .outside; least = λ W i o. omega (arith, c .2, low, over, least W (i ∙ sym (ap not o))) }
 
   placed-cut-tree : CutTree net tree
   placed-cut-tree =
-      let G = graph net in
-      let n = net .nodes in
       record {
         parent = λ i l. P .2 .done i;
         root = P .2 .home;

@@ -13,3 +13,4 @@ pub mod PairLaws
 pub mod MaxFlowMinCut
 pub mod TreeValues
 pub mod Definition1Proof
+pub mod AnswerLaws

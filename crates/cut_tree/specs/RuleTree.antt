@@ -45,46 +45,45 @@ moved-all X s t ps e l x = go (decLt x maxNodes)
 -- ---- one step
 module _ (G : Net) (tree : Tree) (pl : length (tree .parent) ≡ maxNodes) (wl : length (tree .weight) ≡ maxNodes) (s : ℕ) (sl : s < maxNodes)
     (T : Placed G s tree) (X : ℕ) (xl : X < 2 ^ maxNodes) (m : MinCut G s (at (tree .parent) s) (holds X)) where
-  t : ℕ
-  t = at (tree .parent) s
+  abbrev ps : List ℕ
+  ps = tree .parent
 
-  tl : at (tree .parent) s < s
+  abbrev t : ℕ
+  t = at ps s
+
+  abbrev ms : List ℕ
+  ms = moved X s t 0 ps
+
+  abbrev w : ℕ
+  w = cutValue G (holds X)
+
+  tl : t < s
   tl = T .2 .done s
 
-  ms : List ℕ
-  ms = moved X s (at (tree .parent) s) 0 (tree .parent)
+  long : length ms ≡ maxNodes
+  long = length-moved X s t 0 ps ∙ pl
 
-  ms-long : length (moved X s (at (tree .parent) s) 0 (tree .parent)) ≡ maxNodes
-  ms-long = length-moved X s (at (tree .parent) s) 0 (tree .parent) ∙ pl
+  goes : (p′ : ℕ → ℕ) (x : ℕ) → p′ x ≡ at ms x → Goes (at ps) p′ (holds X) s t x
+  goes p′ x e = goes-by (at ps) p′ (holds X) s t x (e ∙ moved-all X s t ps pl xl x)
 
-  goes : (p′ : ℕ → ℕ) (x : ℕ) → p′ x ≡ at (moved X s (at (tree .parent) s) 0 (tree .parent)) x → Goes (at (tree .parent)) p′ (holds X) s (at (tree .parent) s) x
-  goes p′ x e = goes-by (at (tree .parent)) p′ (holds X) s (at (tree .parent) s) x (e ∙ moved-all X s (at (tree .parent) s) (tree .parent) pl xl x)
-
-  pub placed-tree : (b : Bool) → holds X (at (tree .parent) (at (tree .parent) s)) ≡ b → Placed G (suc s) (placed b tree s (at (tree .parent) s) X (cutValue G (holds X)))
-  unfolding ms t
+  placed-tree : (b : Bool) → holds X (at ps t) ≡ b → Placed G (suc s) (placed b tree s t X w)
   placed-tree false e =
-      step G s (at (tree .parent)) (at (tree .weight)) (T .0) (T .1) (T .2) t refl (holds X) m (at (set ms s t)) (at (set (tree .weight) s w)) e
+      step G s (at ps) (at (tree .weight)) (T .0) (T .1) (T .2) t refl (holds X) m (at (set ms s t)) (at (set (tree .weight) s w)) e
       (λ x n. goes (at (set ms s t)) x (getD-set-other ms s x t 0 n))
-      (getD-set-same ms s t 0 (omega (arith, ms-long)))
+      (getD-set-same ms s t 0 (omega (arith, long)))
       (getD-set-same (tree .weight) s w 0 (omega arith))
       (λ y n. getD-set-other (tree .weight) s y w 0 n)
-    where
-      w : ℕ
-      w = cutValue G (holds X)
   placed-tree true e =
-      step-up G s (at (tree .parent)) (at (tree .weight)) (T .0) (T .1) (T .2) t refl (holds X) m (at (set (set ms s q) t s)) (at (set (set (tree .weight) s v) t w)) e
+      step-up G s (at ps) (at (tree .weight)) (T .0) (T .1) (T .2) t refl (holds X) m (at (set (set ms s q) t s)) (at (set (set (tree .weight) s v) t w)) e
       (λ x n o. goes (at (set (set ms s q) t s)) x (getD-set-other (set ms s q) t x s 0 o ∙ getD-set-other ms s x q 0 n))
-      (getD-set-other (set ms s q) t s s 0 ne ∙ getD-set-same ms s q 0 (omega (arith, ms-long)))
-      (getD-set-same (set ms s q) t s 0 (rw length-set (omega (arith, ms-long, tl))))
+      (getD-set-other (set ms s q) t s s 0 ne ∙ getD-set-same ms s q 0 (omega (arith, long)))
+      (getD-set-same (set ms s q) t s 0 (rw length-set (omega (arith, long, tl))))
       (getD-set-other (set (tree .weight) s v) t s w 0 ne ∙ getD-set-same (tree .weight) s v 0 (omega arith))
       (getD-set-same (set (tree .weight) s v) t w 0 (rw length-set (omega (arith, tl))))
       (λ y n o. getD-set-other (set (tree .weight) s v) t y w 0 o ∙ getD-set-other (tree .weight) s y v 0 n)
     where
-      w : ℕ
-      w = cutValue G (holds X)
-
       q : ℕ
-      q = at (tree .parent) t
+      q = at ps t
 
       v : ℕ
       v = at (tree .weight) t
