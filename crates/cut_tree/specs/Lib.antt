@@ -14,3 +14,4 @@ pub mod MaxFlowMinCut
 pub mod TreeValues
 pub mod Definition1Proof
 pub mod AnswerLaws
+pub mod Examples
