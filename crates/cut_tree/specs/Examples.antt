@@ -9,16 +9,13 @@ use Rattle.min_cut.specs.Sum.{sum}
 use Rattle.min_cut.specs.Cut.{cutValue}
 use Rattle.min_cut.specs.Word.{holds, word, first, leastMinCut}
 use Rattle.network.specs.Limits.{maxNodes}
-use Rattle.network.specs.Network.{withCapacity}
+use Rattle.network.specs.Network.{withCapacity, valueOf, minCutValue}
 use Rattle.network.specs.declared.Network.{Network}
 use Rattle.cut_tree.specs.Rule.{moved, stepped, ruleBy, leastCut, rule}
 use Rattle.cut_tree.specs.Rebuild.{survives, kept, keptOrLeast, rebuilt, notKept}
 use Rattle.cut_tree.specs.Path.{maxClimb, reaches, climb, among, without, path, lightest, lightestOn, sideOf, answer, queryOf}
 use Rattle.cut_tree.specs.Definition1.{treeNet}
-use Rattle.cut_tree.specs.declared.Steps.{Steps}
-use Rattle.cut_tree.specs.declared.Tree.{Tree}
 use Rattle.cut_tree.specs.declared.Built.{Built}
-use Rattle.cut_tree.specs.declared.PairAnswer.{PairAnswer}
 use Rattle.cut_tree.specs.declared.PairAnswer.the-variants.{Refused, Found}
 
 -- ---- resort A
@@ -80,6 +77,14 @@ refusals = (refl, refl, refl)
 tree-values : (cutValue (treeNet 4 (rule resortA .tree)) (holds 10) ≡ 14) × (cutValue (treeNet 4 (rule resortA .tree)) (holds 8) ≡ 6)
 unfolding rule ruleBy stepped moved leastCut leastMinCut first holds cutValue sum
 tree-values = (refl, refl)
+
+-- ---- a ring of four nodes: {1, 2} is a minimum cut of 0 and 2, and not one of the tree
+abbrev ring : Network
+ring = record { nodes = 4; links = 4; a = 0 ∷ 1 ∷ 2 ∷ 3 ∷ replicate 252 0; b = 1 ∷ 2 ∷ 3 ∷ 0 ∷ replicate 252 0; capacity = 1 ∷ 1 ∷ 1 ∷ 1 ∷ replicate 252 0 }
+
+not-conversely : (minCutValue ring 2 0 ≡ 2) × (valueOf ring (holds 6) ≡ 2) × (cutValue (treeNet 4 (rule ring .tree)) (holds 6) ≡ 4)
+unfolding rule ruleBy stepped moved leastCut leastMinCut first holds cutValue sum
+not-conversely = (refl, refl, refl)
 
 -- ---- s changes places with its pivot: links (1, 2, 4) and (2, 0, 1)
 abbrev turned : Network

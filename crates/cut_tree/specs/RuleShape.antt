@@ -2,13 +2,12 @@
 use mathlib.Core.Path.{_≡_, refl, sym, ap, _∙_}
 use mathlib.Core.Logic.{_≢_}
 use mathlib.Core.Bool.{Bool, true, false, true≢false}
-use Prim.Native.Nat.{ℕ, zero, suc, _+_, _-_, _^_, _≤_, _<_}
+use Prim.Native.Nat.{ℕ, zero, suc, _-_, _^_, _≤_, _<_}
 use native.Mathlib.Omega.{arith}
 use native.Mathlib.Decide.{ℕ-discrete}
 use lib.ListN.{length, set}
 use lib.Seq.{getD-set-other}
 use lib.Pow.{pow-mono}
-use Rattle.min_cut.specs.Cut.{MinCut}
 use Rattle.min_cut.specs.Word.{holds}
 use Rattle.min_cut.specs.WordLaws.{holds-out}
 use Rattle.network.specs.Basics.{at}
@@ -19,7 +18,7 @@ use Rattle.network.specs.NetworkLaws.{nodes-pos, nodes-le, value-le}
 use Rattle.network.specs.declared.Network.{Network}
 use Rattle.cut_tree.specs.Rule.{moved, placed, stepped, ruleBy, leastCut, rule}
 use Rattle.cut_tree.specs.Path.{maxClimb, reaches}
-use Rattle.cut_tree.specs.RuleLaws.{Long, rule-long, parents-le, Recorded, rule-recorded}
+use Rattle.cut_tree.specs.RuleLaws.{Long, rule-long, parents-le, rule-recorded}
 use Rattle.cut_tree.specs.RuleTree.{moved-all, least-minimum, least-lt, steps-tree, rule-tree}
 use Rattle.cut_tree.specs.Depth.{climb-ends}
 use Rattle.cut_tree.specs.declared.Tree.{Tree}

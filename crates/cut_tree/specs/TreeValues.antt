@@ -1,11 +1,10 @@
 -- The tree as a network: no side has a larger value in the network than in the tree, and a subtree has its edge's weight in the tree.
 use mathlib.Core.Path.{_≡_, refl, sym, ap, subst, _∙_}
-use mathlib.Core.Logic.{_≢_}
 use mathlib.Core.Bool.{Bool, true, false, not, true≢false}
 use Prim.Native.Nat.{ℕ, zero, suc, _+_, _-_, _≤_, _<_}
 use native.Mathlib.Omega.{arith}
 use Rattle.min_cut.specs.Sum.{sum, sum-ext, sum-zero, sum-le, sum-term, sum-single}
-use Rattle.min_cut.specs.Cut.{Net, Side, crossing, cutValue, Separates, Within}
+use Rattle.min_cut.specs.Cut.{Net, Side, crossing, cutValue, Within}
 use Rattle.min_cut.specs.GusfieldPairs.{Edge, edge}
 use Rattle.network.specs.Basics.{at}
 use Rattle.cut_tree.specs.Definition1.{treeNet}
