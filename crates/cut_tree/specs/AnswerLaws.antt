@@ -39,7 +39,8 @@ as-s G n w X s = cutValue-ext G n w (holds (word n Y)) Y (word-holds n Y) ∙ go
     go : (b : Bool) → cutValue G (λ i. not (differ (X i) b)) ≡ cutValue G X
     go true = cutValue-ext G n w (λ i. not (differ (X i) true)) X (λ i l. bool1 (λ x. not (differ x true) ≡ x) (refl, refl) (X i))
     go false =
-        cutValue-ext G n w (λ i. not (differ (X i) false)) (complement X) (λ i l. bool1 (λ x. not (differ x false) ≡ not x) (refl, refl) (X i)) ∙ cutValue-complement G X
+        cutValue-ext G n w (λ i. not (differ (X i) false)) (complement X) (λ i l. bool1 (λ x. not (differ x false) ≡ not x) (refl, refl) (X i))
+        ∙ cutValue-complement G X
 
 module _ (net : Network) (w : WithinLimits net) (s t : ℕ) (sl : s < net .nodes) (tl : t < net .nodes) (d : s ≢ t) where
   abbrev n : ℕ

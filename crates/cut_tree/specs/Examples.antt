@@ -54,7 +54,8 @@ rise : shown 4 (rebuilt resortA (rule resortA .steps) 3 4) ≡ (0 ∷ 0 ∷ 0 �
 unfolding rebuilt keptOrLeast kept rule ruleBy stepped moved leastCut leastMinCut first holds cutValue sum
 rise = refl
 
-taken-back : shown 4 (rebuilt raised (rebuilt resortA (rule resortA .steps) 3 4 .steps) 3 2) ≡ (0 ∷ 0 ∷ 0 ∷ 2 ∷ [], 0 ∷ 8 ∷ 6 ∷ 6 ∷ [], 0 ∷ 0 ∷ 0 ∷ 2 ∷ [], 0 ∷ 2 ∷ 12 ∷ 8 ∷ [], 3)
+taken-back : shown 4 (rebuilt raised (rebuilt resortA (rule resortA .steps) 3 4 .steps) 3 2)
+    ≡ (0 ∷ 0 ∷ 0 ∷ 2 ∷ [], 0 ∷ 8 ∷ 6 ∷ 6 ∷ [], 0 ∷ 0 ∷ 0 ∷ 2 ∷ [], 0 ∷ 2 ∷ 12 ∷ 8 ∷ [], 3)
 unfolding rebuilt keptOrLeast kept rule ruleBy stepped moved leastCut leastMinCut first holds cutValue sum
 taken-back = refl
 

@@ -29,7 +29,8 @@ crossing-pick false false c = refl
 survives-rise : (p : Bool) (v c d : ℕ) → survives p v c d ≡ true → pick p d c ≤ pick p c d
 survives-rise p v c d = go (eqb c d) refl (ltb c d) refl (ltb d c) refl p
   where
-    go : (e : Bool) → eqb c d ≡ e → (r : Bool) → ltb c d ≡ r → (f : Bool) → ltb d c ≡ f → (p : Bool) → e || (r && not p || f && (p && leb (c - d) v)) ≡ true → pick p d c ≤ pick p c d
+    go : (e : Bool) → eqb c d ≡ e → (r : Bool) → ltb c d ≡ r → (f : Bool) → ltb d c ≡ f → (p : Bool)
+        → e || (r && not p || f && (p && leb (c - d) v)) ≡ true → pick p d c ≤ pick p c d
     go true he r hr f hf true q = omega (arith, eqb-true c d he)
     go true he r hr f hf false q = omega (arith, eqb-true c d he)
     go false he true hr f hf false q = omega (arith, ltb-true c d hr)
@@ -78,7 +79,7 @@ module _ (net : Network) (w : WithinLimits net) (k d : ℕ) (kl : k < net .links
         ap (crossing x y) here ∙ crossing-pick x y d,
         crossing-pick x y c,
         sum-at (net .links) (term (at (set (net .capacity) k d))) (term (at (net .capacity))) k kl
-        (λ i n. ap (crossing (X (at (net .a) i)) (X (at (net .b) i))) (getD-set-other (net .capacity) k i d 0 n)),
+            (λ i n. ap (crossing (X (at (net .a) i)) (X (at (net .b) i))) (getD-set-other (net .capacity) k i d 0 n)),
       )
 
   lost : (p : Bool) (c v v' : ℕ) → v' + pick p c 0 ≡ v + pick p d 0 → v ≤ v' + (c - d)
@@ -108,5 +109,6 @@ module _ (net : Network) (w : WithinLimits net) (k d : ℕ) (kl : k < net .links
       let h = survives-loses (holds X) (minCutValue net s t) e in
       let x = loses-least net new s t (c - d) (holds X) h (leastMinCut-least (net .nodes) G s t ends sl tl n) in
       let same : leastSide new s t ≡ X =
-          leastMinCut-word (net .nodes) (graph new) s t ends sl tl n X (leastMinCut-lt (net .nodes) G s t ends sl tl n) (x .minimum) (λ y yl m i il q. x .contained (holds y) m i q) in
+      leastMinCut-word (net .nodes) (graph new) s t ends sl tl n X (leastMinCut-lt (net .nodes) G s t ends sl tl n)
+      (x .minimum) (λ y yl m i il q. x .contained (holds y) m i q) in
       (same, omega (arith, ap (λ v. valueOf new (holds v)) same, h .own))

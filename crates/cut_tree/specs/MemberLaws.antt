@@ -1,7 +1,7 @@
 -- Laws of members of lists, as far as tree paths are made of them: joined, turned round, with some left out.
-use mathlib.Core.Path.{_≡_, refl, _∙_}
+use mathlib.Core.Path.{_≡_, refl, sym, _∙_}
 use mathlib.Core.Logic.{_⊎_, inl, inr}
-use mathlib.Core.Bool.{Bool, true, false, not, _&&_, _||_}
+use mathlib.Core.Bool.{Bool, true, false, not, _&&_, _||_, true≢false}
 use mathlib.Core.List.{List, [], _∷_, _++_, reverseAux}
 use Prim.Native.Nat.{ℕ}
 use native.Mathlib.Decide.{ℕ-discrete}
@@ -9,6 +9,10 @@ use lib.Dec.{eqb}
 use borrow.Author.Tests.{eqb-true, eq-eqb, ne-eqb}
 use Rattle.network.specs.Basics.{pick}
 use Rattle.cut_tree.specs.Path.{among, without}
+
+pub no-member : (v : ℕ) → among v [] ≡ true → ⊥
+unfolding among
+no-member v e = true≢false (sym e)
 
 pub among-append : (v : ℕ) (xs ys : List ℕ) → among v (xs ++ ys) ≡ (among v xs || among v ys)
 unfolding among

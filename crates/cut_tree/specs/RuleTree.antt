@@ -31,7 +31,8 @@ abbrev pub Placed : Net → ℕ → Tree → Type 0
 Placed G i tree = Cut-tree G i (at (tree .parent)) (at (tree .weight))
 
 -- where every node goes, those beyond the array too: a word has no bit there
-pub moved-all : (X s t : ℕ) (ps : List ℕ) → length ps ≡ maxNodes → X < 2 ^ maxNodes → (x : ℕ) → at (moved X s t 0 ps) x ≡ pick (holds X x && eqb (at ps x) t) s (at ps x)
+pub moved-all : (X s t : ℕ) (ps : List ℕ) → length ps ≡ maxNodes → X < 2 ^ maxNodes → (x : ℕ)
+    → at (moved X s t 0 ps) x ≡ pick (holds X x && eqb (at ps x) t) s (at ps x)
 moved-all X s t ps e l x = go (decLt x maxNodes)
   where
     go : Dec (x < maxNodes) → at (moved X s t 0 ps) x ≡ pick (holds X x && eqb (at ps x) t) s (at ps x)
