@@ -11,7 +11,6 @@ pub mod Definition1
 pub mod MemberLaws
 pub mod PathLaws
 pub mod PairLaws
-pub mod MaxFlowMinCut
 pub mod TreeValues
 pub mod Definition1Proof
 pub mod AnswerLaws
