@@ -14,7 +14,7 @@ use Rattle.network.specs.declared.Network.{Network}
 use Rattle.max_flow.specs.LeastCut.{Endpoints, leastCutOf}
 use Rattle.max_flow.specs.LargestFlow.{LargestFlow}
 
-module _ (net : Network) (s t : ℕ) (a : Endpoints net s t) where
+module _ {net : Network} {s t : ℕ} (a : Endpoints net s t) where
   least : LeastMinCut (graph net) s t (holds (leastSide net s t))
   least = leastMinCut-least (net .nodes) (graph net) s t (ends-within net (a .fits)) (a .source) (a .sink) (a .apart)
 

@@ -1,5 +1,5 @@
--- Worked examples, by evaluation: the least minimum cuts of document 01's resort A (its reading P2), and one flow that is lawful and of the
--- largest total beside one that is not. Each definition here is pinned by them.
+-- Worked examples, by evaluation: the least minimum cuts of document 01's resort A (its reading P2), and how residual capacities start, change
+-- and are read as a flow.
 use mathlib.Core.Path.{_≡_, refl}
 use mathlib.Core.Bool.{true, false}
 use mathlib.Core.List.{List, [], _∷_}
