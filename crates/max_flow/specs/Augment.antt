@@ -1,9 +1,9 @@
 -- Augmenting: the residual capacities hold a flow from s to t all along, which grows until no search reaches t. What was reached then is the
 -- least minimum cut, and the flow's total is its value.
 use mathlib.Core.Path.{_≡_, refl, sym, ap, ap₂, _∙_}
-use mathlib.Core.Bool.{Bool, true, false}
-use mathlib.Core.List.{List, []}
-use Prim.Native.Nat.{ℕ, _+_, _-_, _*_, _<_, _≤_}
+use mathlib.Core.Bool.{true, false}
+use mathlib.Core.List.{List}
+use Prim.Native.Nat.{ℕ, _+_, _-_, _<_, _≤_}
 use native.Mathlib.Omega.{arith}
 use lib.Dec.{eqb}
 use borrow.Author.Tests.{eq-eqb, ne-eqb}
@@ -12,13 +12,13 @@ use Rattle.min_cut.specs.Residual.{ResidualFlow, more, weak, full}
 use Rattle.min_cut.specs.Arcs.{reached-least, shut-closed}
 use Rattle.network.specs.Basics.{at}
 use Rattle.network.specs.Limits.{maxNodes, maxValue}
-use Rattle.network.specs.Network.{networkFits, graph, leastSide, minCutValue}
+use Rattle.network.specs.Network.{graph, leastSide, minCutValue}
 use Rattle.network.specs.NetworkLaws.{nodes-le, ends-within, value-le}
 use Rattle.network.specs.declared.Network.{Network}
 use Rattle.max_flow.specs.LeastCut.{Endpoints, leastCutOf}
 use Rattle.max_flow.specs.Residuals.{ahead, back, fullResidual, Balanced}
 use Rattle.max_flow.specs.ResidualLaws.{full-balanced, full-flow}
-use Rattle.max_flow.specs.Search.{TreeFrom, Searched}
+use Rattle.max_flow.specs.Search.{Searched}
 use Rattle.max_flow.specs.SearchLaws.{contained}
 use Rattle.max_flow.specs.Push.{most, Sending, Sent}
 use Rattle.max_flow.specs.declared.search.SearchTree.{SearchTree}
@@ -28,6 +28,12 @@ use Rattle.max_flow.specs.declared.Cut.{Cut}
 pub record Flowing (net : Network) (s t v : ℕ) (r : List (List ℕ)) : Type 0 where
   pub balanced : Balanced net r
   pub flow : ResidualFlow (graph net) s t v (ahead r) (back r)
+
+-- r' holds d more
+pub record Growth (net : Network) (s t v d : ℕ) (r' : List (List ℕ)) : Type 0 where
+  pub flowing : Flowing net s t (v + d) r'
+  pub most : v + d ≤ maxValue
+  pub some : 0 < d
 
 -- at the end
 pub record Augmented (net : Network) (s t : ℕ) (cut : Cut) (r : List (List ℕ)) : Type 0 where
@@ -39,7 +45,7 @@ module _ {net : Network} {s t : ℕ} (a : Endpoints net s t) where
   flowing-start r e = rw e (record { balanced = full-balanced net (a .fits); flow = full-flow net (a .fits) s t })
 
   -- by the side of s alone
-  pub flow-le : {v : ℕ} {r : List (List ℕ)} → Flowing net s t v r → v ≤ maxValue
+  flow-le : {v : ℕ} {r : List (List ℕ)} → Flowing net s t v r → v ≤ maxValue
   flow-le {v} {r} f =
       omega (
         arith,
@@ -55,19 +61,15 @@ module _ {net : Network} {s t : ℕ} (a : Endpoints net s t) where
     sending = record { fits = a .fits; balanced = f .balanced; tree = o .tree }
 
     -- t is reached
-    module _ {d : ℕ} {r' : List (List ℕ)} (q : holds (w .reached) t ≡ true) (p : Sent net s r w d r') where
-      pub flowing-more : Flowing net s t (v + d) r'
-      flowing-more =
-          record {
-            balanced = p .balanced;
-            flow = more (graph net) s t v d (ahead r) (back r) (ahead r') (back r') (f .flow) (rw (o .hit q) at (p .pushed));
-          }
-
-      pub more-le : v + d ≤ maxValue
-      more-le = flow-le flowing-more
-
-      pub more-some : 0 < d
-      more-some = omega (arith, p .amount, o .tree .flows (w .count - 1) (omega (arith, o .tree .some)))
+    pub grows : {d : ℕ} {r' : List (List ℕ)} → holds (w .reached) t ≡ true → Sent net s r w d r' → Growth net s t v d r'
+    grows {d} {r'} q p = record { flowing = larger; most = flow-le larger; some = omega (arith, p .amount, o .tree .flows (w .count - 1) (omega (arith, o .tree .some))) }
+      where
+        larger : Flowing net s t (v + d) r'
+        larger =
+            record {
+              balanced = p .balanced;
+              flow = more (graph net) s t v d (ahead r) (back r) (ahead r') (back r') (f .flow) (rw (o .hit q) at (p .pushed));
+            }
 
     -- t is not reached
     module _ (q : holds (w .reached) t ≡ false) where

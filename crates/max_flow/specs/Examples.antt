@@ -2,10 +2,9 @@
 -- and are read as a flow.
 use mathlib.Core.Path.{_≡_, refl}
 use mathlib.Core.Bool.{true, false}
-use mathlib.Core.List.{List, [], _∷_}
-use Prim.Native.Nat.{ℕ}
-use lib.IntN.{ℤ, pos, negℤ}
-use lib.ListN.{getD, take}
+use mathlib.Core.List.{[], _∷_}
+use lib.IntN.{pos, negℤ}
+use lib.ListN.{take}
 use Rattle.min_cut.specs.Sum.{sum}
 use Rattle.min_cut.specs.Cut.{cutValue}
 use Rattle.min_cut.specs.Word.{holds, first, leastMinCut}

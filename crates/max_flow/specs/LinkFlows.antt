@@ -1,23 +1,21 @@
 -- From residual capacities to a flow with one signed number for each link, positive from a to b: the capacity less what is left from a to b.
-use mathlib.Core.Path.{_≡_, refl, sym, ap, _∙_}
-use mathlib.Core.Logic.{_≢_}
-use mathlib.Core.Bool.{true}
-use mathlib.Core.List.{List, []}
+use mathlib.Core.Path.{_≡_, refl, _∙_}
+use mathlib.Core.List.{List}
 use Prim.Native.Nat.{ℕ, zero, suc, _+_, _*_, _<_, _≤_}
 use native.Mathlib.Omega.{arith}
 use native.Mathlib.Decide.{ℕ-discrete}
 use lib.IntN.{ℤ, pos, _-ℤ_}
-use lib.ListN.{getD, set, length, length-set}
+use lib.ListN.{set, length, length-set}
 use lib.Seq.{getD-set-same, getD-set-other}
 use Rattle.min_cut.specs.MaxFlow.{residual-lawful, residual-total}
 use Rattle.network.specs.Basics.{at}
 use Rattle.network.specs.Limits.{maxLinks, maxCapacity}
-use Rattle.network.specs.Network.{networkFits, graph, minCutValue, flowAt, LawfulFlow, totalOf}
+use Rattle.network.specs.Network.{graph, minCutValue, flowAt}
 use Rattle.network.specs.NetworkLaws.{links-le, capacity-le}
 use Rattle.network.specs.declared.Network.{Network}
 use Rattle.max_flow.specs.LeastCut.{Endpoints}
 use Rattle.max_flow.specs.LargestFlow.{LargestFlow}
-use Rattle.max_flow.specs.Residuals.{ahead, back, Balanced}
+use Rattle.max_flow.specs.Residuals.{ahead, back}
 use Rattle.max_flow.specs.Augment.{Flowing}
 
 -- what link k carries

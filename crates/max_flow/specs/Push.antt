@@ -2,8 +2,8 @@
 use mathlib.Core.Path.{_≡_, refl, sym, ap, _∙_}
 use mathlib.Core.Logic.{_≢_}
 use mathlib.Core.Bool.{true, cond}
-use mathlib.Core.List.{List, []}
-use Prim.Native.Nat.{ℕ, _+_, _-_, _*_, _/_, _%_, _<_, _≤_}
+use mathlib.Core.List.{List}
+use Prim.Native.Nat.{ℕ, _+_, _-_, _*_, _/_, _<_, _≤_}
 use native.Mathlib.Omega.{arith}
 use Rattle.min_cut.specs.Residual.{Pushed}
 use Rattle.min_cut.specs.Arcs.{tail, tip, forward}
@@ -12,7 +12,7 @@ use Rattle.network.specs.Limits.{maxNodes, maxArcs, maxCapacity}
 use Rattle.network.specs.Network.{networkFits, graph}
 use Rattle.network.specs.NetworkLaws.{links-le}
 use Rattle.network.specs.declared.Network.{Network}
-use Rattle.max_flow.specs.Residuals.{ahead, back, roomOn, rowAfter, sentAlong, Balanced}
+use Rattle.max_flow.specs.Residuals.{ahead, back, roomOn, sentAlong, Balanced}
 use Rattle.max_flow.specs.ResidualLaws.{along-pushed, along-balanced, along-other, along-fits}
 use Rattle.max_flow.specs.Search.{Entered, TreeFrom}
 use Rattle.max_flow.specs.SearchLaws.{place-lt, node-lt}

@@ -1,17 +1,15 @@
 -- Laws of the residual capacities: what the code reads, the start, and one arc along which more is sent.
-use mathlib.Core.Path.{_≡_, refl, sym, ap, _∙_}
+use mathlib.Core.Path.{_≡_, refl, ap, _∙_}
 use mathlib.Core.Logic.{_≢_}
 use mathlib.Core.Bool.{Bool, true, false, cond}
 use mathlib.Core.List.{List, [], _∷_}
-use Prim.Native.Nat.{ℕ, zero, suc, _+_, _-_, _*_, _/_, _%_, _<_, _≤_}
+use Prim.Native.Nat.{ℕ, zero, suc, _+_, _*_, _/_, _%_, _<_, _≤_}
 use native.Mathlib.Omega.{arith}
 use native.Mathlib.Decide.{ℕ-discrete}
-use lib.Dec.{eqb}
-use lib.ListN.{getD, set, length, replicate, length-set, length-replicate}
+use lib.ListN.{getD, set, length, length-set, length-replicate}
 use lib.Seq.{getD-set-same, getD-set-other}
 use borrow.Author.Tests.{eqb-true, eqb-false}
 use Rattle.min_cut.specs.Sum.{sum-ext}
-use Rattle.min_cut.specs.Cut.{Side}
 use Rattle.min_cut.specs.Residual.{residual, ResidualFlow, Pushed, At, start, push-ahead, push-back}
 use Rattle.min_cut.specs.Arcs.{tail, tip, room, forward}
 use Rattle.network.specs.Basics.{at}

@@ -11,7 +11,7 @@ use network::Network;
 use node_set::contains;
 ghost use mathlib.Core.Bool.{true, cond};
 ghost use mathlib.Core.Path.{_≡_};
-ghost use Prim.Native.Nat.{ℕ, _+_, _*_, _<_, _≤_};
+ghost use Prim.Native.Nat.{ℕ, _+_, _*_, _≤_};
 ghost use Rattle.max_flow.specs.Augment.{Augmented};
 ghost use Rattle.max_flow.specs.Push.{Sending, Sent};
 ghost use Rattle.max_flow.specs.Residuals.{fullResidual, rowAfter};

@@ -1,7 +1,7 @@
 -- `augment` meets its contract: the residual capacities hold a flow of `total`, which grows with each path and is at most `maxValue`.
 use mathlib.Core.Path.{_≡_, sym, _∙_}
 use mathlib.Core.Bool.{true}
-use Prim.Native.Nat.{ℕ, _+_, _-_, _<_, _≤_}
+use Prim.Native.Nat.{_-_}
 use native.Mathlib.Omega.{arith}
 use borrow.Author.Tests.{not-true, not-false}
 use Rattle.min_cut.specs.Word.{holds}
@@ -9,7 +9,7 @@ use Rattle.network.specs.Limits.{maxValue}
 use Rattle.network.specs.declared.Network.{Network}
 use Rattle.max_flow.specs.Residuals.{fullResidual}
 use Rattle.max_flow.specs.Search.{Ready}
-use Rattle.max_flow.specs.Augment.{Flowing, flowing-start, flowing-more, more-le, more-some, sending, at-end, ends-lt}
+use Rattle.max_flow.specs.Augment.{Flowing, flowing-start, grows, sending, at-end, ends-lt}
 use Rattle.max_flow.proofs.augment.augment.Statement.{statement}
 use Rattle.max_flow.proofs.augment.augment.Tie as tie
 
@@ -58,8 +58,7 @@ add-total c =
     let w = c .before .before .before .before .before .search in
     let net = st .pre .0 in
     let a = st .pre .1 in
-    let sum = more-le (a .ends) (l .inv net a (st .pre .2)) (w .ensures net a) (hit (c .before .before .before)) (c .push .ensures net (st .args .s) (sending (a .ends) (l .inv net a (st .pre .2)) (w .ensures net a))) in
-    omega (arith, sum)
+    omega (arith, grows (a .ends) (l .inv net a (st .pre .2)) (w .ensures net a) (hit (c .before .before .before)) (c .push .ensures net (st .args .s) (sending (a .ends) (l .inv net a (st .pre .2)) (w .ensures net a))))
 
 loop-less : tie.Need-loop-less Inv-loop μ-loop
 loop-less c =
@@ -68,17 +67,14 @@ loop-less c =
     let w = c .before .before .before .before .before .search in
     let net = st .pre .0 in
     let a = st .pre .1 in
-    let sum = more-le (a .ends) (l .inv net a (st .pre .2)) (w .ensures net a) (hit (c .before .before .before)) (c .push .ensures net (st .args .s) (sending (a .ends) (l .inv net a (st .pre .2)) (w .ensures net a))) in
-    let some = more-some (a .ends) (l .inv net a (st .pre .2)) (w .ensures net a) (hit (c .before .before .before)) (c .push .ensures net (st .args .s) (sending (a .ends) (l .inv net a (st .pre .2)) (w .ensures net a))) in
-    omega (arith, sum, some)
+    omega (arith, grows (a .ends) (l .inv net a (st .pre .2)) (w .ensures net a) (hit (c .before .before .before)) (c .push .ensures net (st .args .s) (sending (a .ends) (l .inv net a (st .pre .2)) (w .ensures net a))))
 
 loop-again : tie.Need-loop-again Inv-loop μ-loop
 loop-again c =
     let st = c .before .before .before .before .before .before .before .before .before .before .before .before .before .before .before .before .before .before in
     let l = c .before .before .before .before .before .before .before .before .before .before .before .before .before .before .loop in
     let w = c .before .before .before .before .before .search in
-    λ net a q.
-    flowing-more (a .ends) (l .inv net a q) (w .ensures net a) (hit (c .before .before .before)) (c .push .ensures net (st .args .s) (sending (a .ends) (l .inv net a q) (w .ensures net a)))
+    λ net a q. grows (a .ends) (l .inv net a q) (w .ensures net a) (hit (c .before .before .before)) (c .push .ensures net (st .args .s) (sending (a .ends) (l .inv net a q) (w .ensures net a))) .flowing
 
 pub augment-spec : {M : Type 1} → statement M
 augment-spec =

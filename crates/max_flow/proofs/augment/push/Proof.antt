@@ -1,6 +1,6 @@
 -- `push` meets its contract: at place i the amount is sent from there to the node reached last. Places fall.
-use mathlib.Core.Path.{_≡_, refl}
-use Prim.Native.Nat.{ℕ, _+_, _-_, _*_, _<_, _≤_}
+use mathlib.Core.Path.{refl}
+use Prim.Native.Nat.{ℕ}
 use native.Mathlib.Omega.{arith}
 use lib.Dec.{lit<}
 use borrow.Author.Needs.{needs, fits-under, scaled-fits}

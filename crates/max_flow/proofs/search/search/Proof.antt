@@ -15,6 +15,7 @@ use Rattle.max_flow.specs.Search.{Ready, grownBy}
 use Rattle.max_flow.specs.Scan.{Going, Inner, Placed, Looking, Fresh, going-start, going-end, going-next, placed, past-falls}
 use Rattle.max_flow.specs.Scan.{inner-start, looking, next-full, next-held, next-new, jump-new, hit-new}
 use Rattle.max_flow.specs.Augment.{ends-lt}
+use Rattle.max_flow.specs.declared.search.SearchTree.{SearchTree}
 use Rattle.max_flow.proofs.search.search.Statement.{statement}
 use Rattle.max_flow.proofs.search.search.Tie as tie
 
@@ -39,29 +40,45 @@ at-place c =
     let st = c .before .before .before in
     placed (st .pre .1) (c .before .search .inv (st .pre .0) (st .pre .1)) (c .search-test .taken)
 
+-- where the function starts, of a turn over the arcs
+abbrev start : tie.At-loop Inv-loop μ-loop Inv-search μ-search → tie.Start Inv-loop μ-loop Inv-search μ-search
+start c = c .before .before .before .before .before .before
+
 at-arc : (c : tie.In-loop Inv-loop μ-loop Inv-search μ-search)
-    → Looking (c .before .before .before .before .before .before .before .args .next .now) (c .before .before .before .before .before .before .before .args .to .now) (c .before .loop .tree) (c .before .before .before .before .before .search .i) (c .before .loop .p) (c .before .loop .e)
+    → Looking (start (c .before) .args .next .now) (start (c .before) .args .to .now) (c .before .loop .tree) (c .before .before .before .before .before .search .i) (c .before .loop .p) (c .before .loop .e)
 at-arc c =
-    let st = c .before .before .before .before .before .before .before in
+    let st = start (c .before) in
     looking (st .pre .1) (c .before .loop .inv .2 (st .pre .0) (st .pre .1)) (c .loop-test .taken)
 
-new-at : (c : tie.Then1 Inv-loop μ-loop Inv-search μ-search) → holds (c .before .before .before .before .before .loop .tree .reached) (at (c .before .before .before .before .before .before .before .before .before .before .before .args .to .now) (c .before .before .before .before .before .loop .e - 1)) ≡ false
+-- the turn over the arcs that a place lies in
+abbrev turn : tie.Then1 Inv-loop μ-loop Inv-search μ-search → tie.At-loop Inv-loop μ-loop Inv-search μ-search
+turn c = c .before .before .before .before .before
+
+new-at : (c : tie.Then1 Inv-loop μ-loop Inv-search μ-search) → holds (turn c .loop .tree .reached) (at (start (turn c) .args .to .now) (turn c .loop .e - 1)) ≡ false
 new-at c = sym (c .before .contains .ensures) ∙ not-true _ (c .if1 .taken)
 
-free-lt : (c : tie.Then1 Inv-loop μ-loop Inv-search μ-search) → c .before .before .before .before .before .loop .tree .count < maxNodes
+free-lt : (c : tie.Then1 Inv-loop μ-loop Inv-search μ-search) → turn c .loop .tree .count < maxNodes
 free-lt c = at-arc (c .before .before .before .before) .free (new-at c)
 
+abbrev branch : tie.After-lesser Inv-loop μ-loop Inv-search μ-search → tie.Then1 Inv-loop μ-loop Inv-search μ-search
+branch c = c .before .before .before .before .before
+
+-- the tree as the code has made it, but for the word of what is reached
+abbrev grownTo : tie.After-lesser Inv-loop μ-loop Inv-search μ-search → ℕ → SearchTree
+grownTo c =
+    let l = turn (branch c) .loop in
+    grownBy (l .tree) (l .p) (l .e - 1) (at (start (turn (branch c)) .args .to .now) (l .e - 1)) (c .lesser .result)
+
 fresh : (c : tie.After-lesser Inv-loop μ-loop Inv-search μ-search)
-    → Fresh (c .before .before .before .before .before .before .before .before .before .before .before .before .before .before .before .before .args .to .now) (c .before .before .before .before .before .before .before .before .before .before .before .before .before .before .before .before .args .t4) (c .before .before .before .before .before .before .before .before .before .before .loop .tree) (c .before .before .before .before .before .before .before .before .before .before .loop .p) (c .before .before .before .before .before .before .before .before .before .before .loop .e)
-    (grownBy (c .before .before .before .before .before .before .before .before .before .before .loop .tree) (c .before .before .before .before .before .before .before .before .before .before .loop .p) (c .before .before .before .before .before .before .before .before .before .before .loop .e - 1) (at (c .before .before .before .before .before .before .before .before .before .before .before .before .before .before .before .before .args .to .now) (c .before .before .before .before .before .before .before .before .before .before .loop .e - 1)) (c .lesser .result) (c .before .before .add .result))
+    → Fresh (start (turn (branch c)) .args .to .now) (start (turn (branch c)) .args .t4) (turn (branch c) .loop .tree) (turn (branch c) .loop .p) (turn (branch c) .loop .e)
+    (grownTo c (c .before .before .add .result))
 fresh c =
-    let l = c .before .before .before .before .before .before .before .before .before .before .loop in
     record {
       amount = c .lesser .result;
       most = c .lesser .ensures;
       some = omega (arith, c .before .before .before .if2 .taken);
-      new = new-at (c .before .before .before .before .before);
-      tree = ap (grownBy (l .tree) (l .p) (l .e - 1) (at (c .before .before .before .before .before .before .before .before .before .before .before .before .before .before .before .before .args .to .now) (l .e - 1)) (c .lesser .result)) (c .before .before .add .ensures);
+      new = new-at (branch c);
+      tree = ap (grownTo c) (c .before .before .add .ensures);
     }
 
 seed-requires : tie.Need-seed-requires Inv-loop μ-loop Inv-search μ-search
