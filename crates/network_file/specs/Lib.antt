@@ -1,5 +1,8 @@
 pub mod Number
-pub mod Faults
-pub mod NumberLaws
 pub mod Reading
 pub mod Writing
+pub mod Faults
+pub mod NumberLaws
+pub mod Taking
+pub mod Filling
+pub mod Told
