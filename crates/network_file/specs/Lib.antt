@@ -6,3 +6,5 @@ pub mod NumberLaws
 pub mod Taking
 pub mod Filling
 pub mod Told
+pub mod RoundTrip
+pub mod FileLaws

@@ -102,8 +102,8 @@ file-is n m net f =
     ap₂ (λ (p q : ℕ). numberBytes p ++ (numberBytes q ++ linkBytes net q)) (f .nodes) (f .links) ∙ (sym (append-assoc (numberBytes n) (numberBytes m) (linkBytes net m)))
 
 pub data Told (s : List ℕ) : Progress → Type 0 where
-  refuses : {e at : ℕ} → Fault s (suc e) at → Told s (stopped (suc e) at)
-  accepts : {next : ℕ} {net : Network} → Due s over next → length s ≤ next → WithinLimits net → (Bytes s → fileOf net ≡ s) → Told s (going next net)
+  is-refused : {e at : ℕ} → Fault s (suc e) at → Told s (stopped (suc e) at)
+  is-accepted : {next : ℕ} {net : Network} → Due s over next → length s ≤ next → WithinLimits net → (Bytes s → fileOf net ≡ s) → Told s (going next net)
 
 module _ (s : List ℕ) where
   at-end : (n m next : ℕ) (net : Network) → 1 ≤ n → n ≤ maxNodes → m ≤ maxLinks → Due s over next → Filled n m m net
@@ -111,13 +111,13 @@ module _ (s : List ℕ) where
   at-end n m next net np nl ml d f w = go (ltb next (length s)) refl
     where
       go : (b : Bool) → ltb next (length s) ≡ b → Told s (pick b (stopped 9 next) (going next net))
-      go true e = refuses (record { next = over; due = d; bad = nine (ltb-true next (length s) e) })
+      go true e = is-refused (record { next = over; due = d; bad = nine (ltb-true next (length s) e) })
       go false e =
           let past = ltb-false next (length s) e in
-          accepts d past (filled-within n m net f np nl ml) (λ b. file-is n m net f ∙ sym (w b) ∙ take-all next s past)
+          is-accepted d past (filled-within n m net f np nl ml) (λ b. file-is n m net f ∙ sym (w b) ∙ take-all next s past)
 
   after-links : (n m : ℕ) {r : Progress} → 1 ≤ n → n ≤ maxNodes → m ≤ maxLinks → LinksTold s n m m r → Told s (after r (ended s))
-  after-links n m np nl ml (links-stop x) = refuses x
+  after-links n m np nl ml (links-stop x) = is-refused x
   after-links n m np nl ml (links-go {next = next} {net = net} d f w) =
       let none-left : m - m ≡ 0 = omega arith in
       at-end n m next net np nl ml (subst (λ (left : ℕ). Due s (linksLeft n left) next) none-left d) f w
@@ -127,14 +127,14 @@ module _ (s : List ℕ) where
   told =
       let rest : ℕ → ℕ → ℕ → Progress = λ n m next. after (readLinks s m (going next (unread n m))) (ended s) in
       let from-m : ℕ → ℕ → Progress = λ n next. taking s next linksRow stopped (rest n) in
-      by-taking (Told s) s 0 nodes stopped from-m (λ e bad. refuses (record { next = number nodes; due = first; bad = bad }))
+      by-taking (Told s) s 0 nodes stopped from-m (λ e bad. is-refused (record { next = number nodes; due = first; bad = bad }))
       λ n i sn pn. let d1 : Due s (number (links n)) (0 + i) = then first sn pn in
-      by-taking (Told s) s (0 + i) (links n) stopped (rest n) (λ e bad. refuses (record { next = number (links n); due = d1; bad = bad }))
+      by-taking (Told s) s (0 + i) (links n) stopped (rest n) (λ e bad. is-refused (record { next = number (links n); due = d1; bad = bad }))
       λ m j sm pm.
       let bounds = nodes-passed n pn in
       let ml = links-passed n m pm in
       let all-left : m ≡ m - 0 = omega arith in
       let start : LinksTold s n m 0 (going (0 + i + j) (unread n m)) =
-          links-go (subst (λ (left : ℕ). Due s (linksLeft n left) (0 + i + j)) all-left (then d1 sm pm)) (unread-filled n m)
-          (λ b. stands-written s (0 + i) m j b sm ∙ ap (λ (l : List ℕ). l ++ numberBytes m) (stands-written s 0 n i b sn) ∙ bare n m (unread n m)) in
+      links-go (subst (λ (left : ℕ). Due s (linksLeft n left) (0 + i + j)) all-left (then d1 sm pm)) (unread-filled n m)
+      (λ b. stands-written s (0 + i) m j b sm ∙ ap (λ (l : List ℕ). l ++ numberBytes m) (stands-written s 0 n i b sn) ∙ bare n m (unread n m)) in
       after-links n m (bounds .0) (bounds .1) ml (links-told s n m (going (0 + i + j) (unread n m)) ml start m (omega arith))
