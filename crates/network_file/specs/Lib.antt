@@ -8,3 +8,4 @@ pub mod Filling
 pub mod Told
 pub mod RoundTrip
 pub mod FileLaws
+pub mod FaultLaws
