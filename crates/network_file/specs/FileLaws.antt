@@ -55,3 +55,6 @@ round-trip net w = rw (all-read net w)
 pub fileOf-injective : (net other : Network) → WithinLimits net → WithinLimits other → fileOf net ≡ fileOf other → net ≡ other
 fileOf-injective net other w v e =
     ap (λ (r : Reading). r .network) (sym (round-trip net w) ∙ ap readFile e ∙ round-trip other v)
+
+pub written-accepted : (net : Network) (s : List ℕ) → WithinLimits net → fileOf net ≡ s → readFile s .number ≡ 0
+written-accepted net s w e = ap (λ (r : Reading). r .number) (ap readFile (sym e) ∙ round-trip net w)

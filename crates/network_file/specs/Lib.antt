@@ -9,3 +9,5 @@ pub mod Told
 pub mod RoundTrip
 pub mod FileLaws
 pub mod FaultLaws
+pub mod LengthLaws
+pub mod Files

@@ -13,6 +13,12 @@ pub struct Reading {
     pub network: Network,
 }
 
+// What writing a file gives: its length; or a refusal number and 0.
+pub struct FileWritten {
+    pub number: u32,
+    pub length: usize,
+}
+
 // A number that was read and checked by its row: number 0, its value and the place behind it; or a refusal number.
 struct Taken {
     number: u32,
