@@ -11,3 +11,4 @@ pub mod FileLaws
 pub mod FaultLaws
 pub mod LengthLaws
 pub mod Files
+pub mod NumberSteps
