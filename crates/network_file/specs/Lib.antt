@@ -12,3 +12,4 @@ pub mod FaultLaws
 pub mod LengthLaws
 pub mod Files
 pub mod NumberSteps
+pub mod ReadingSteps
