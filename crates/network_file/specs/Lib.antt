@@ -13,3 +13,4 @@ pub mod LengthLaws
 pub mod Files
 pub mod NumberSteps
 pub mod ReadingSteps
+pub mod LinksSteps

@@ -8,16 +8,19 @@ use native.Mathlib.Omega.{arith}
 use lib.ListN.{length, drop, length-drop}
 use lib.Dec.{ltb, eqb}
 use borrow.Author.Tests.{lt-ltb, le-ltb, eq-eqb, ne-eqb}
+use Rattle.network.specs.Basics.{pick}
 use Rattle.network.specs.Checks.{check, accepted}
 use Rattle.network.specs.Limits.{maxNodes, maxLinks, maxCapacity, maxGroups}
+use Rattle.network.specs.declared.Network.{Network}
 use Rattle.network_file.specs.Number.{readGroups, readNumber, numberOf, valueIn, sizeIn}
-use Rattle.network_file.specs.Reading.{nodesRow, linksRow, endRow, otherEndRow, capacityRow, noRow, noNumber, aNumber, taken, taking, noLink, linkAt, stopped, going, unread, after, readLinks, ended, readAll}
+use Rattle.network_file.specs.Reading.{nodesRow, linksRow, endRow, otherEndRow, capacityRow, noRow, noNumber, aNumber, taken, taking, noLink, linkAt, stopped, going, unread, after, readLinks, ended, readAll, readFile}
 use Rattle.network_file.specs.NumberLaws.{Seen, sees-one, sees-two, sees-three, sees-value, seen, size-within}
 use Rattle.network_file.specs.declared.Number.{Number}
 use Rattle.network_file.specs.declared.Number.the-variants.{Value, Refused}
 use Rattle.network_file.specs.declared.Taken.{Taken}
 use Rattle.network_file.specs.declared.Link.{Link}
 use Rattle.network_file.specs.declared.Progress.{Progress}
+use Rattle.network_file.specs.declared.Reading.{Reading}
 
 -- ---- a number is taken
 module _ (s : List ℕ) (place : ℕ) where
@@ -48,7 +51,7 @@ module _ (s : List ℕ) (place : ℕ) where
       let z : sizeIn (readGroups maxGroups (drop place s)) ≡ size = ap sizeIn q in
       omega (arith, length-drop place s)
 
-  pub next-within : place ≤ length s → taken s place noRow .next ≤ length s
+  next-within : place ≤ length s → taken s place noRow .next ≤ length s
   unfolding taken readNumber
   next-within l = go (readGroups maxGroups (drop place s)) (size-in (seen maxGroups (drop place s)))
     where
@@ -60,6 +63,9 @@ module _ (s : List ℕ) (place : ℕ) where
       go : (r : Number) → sizeIn r ≤ length (drop place s)
           → accepted (check (ltb 0 (numberOf r)) (numberOf r) 0) (aNumber (valueIn r) (place + sizeIn r)) (λ e. noNumber e place) .next ≤ length s
       go r h = by-number (check (ltb 0 (numberOf r)) (numberOf r) 0) (valueIn r) (sizeIn r) h
+
+pub behind : (s : List ℕ) (place : ℕ) (t : Taken) → t ≡ taken s place noRow → place ≤ length s → t .next ≤ length s
+behind s place t e l = subst (λ (u : Taken). u .next ≤ length s) (sym e) (next-within s place l)
 
 -- ---- a number is taken and checked by its row; t is what was taken
 module _ {A : Type 0} (s : List ℕ) (place : ℕ) (row : ℕ → ℕ) (stop next : ℕ → ℕ → A) where
@@ -166,3 +172,97 @@ module _ (s : List ℕ) (place n : ℕ) (ta : Taken) (a-is : ta ≡ taken s plac
                   → record { number = 0; place = tc .next; a = ta .value; b = tb .value; capacity = tc .value } ≡ linkAt s place n
               unfolding from-c last
               link-read h = goes-on s (tb .next) capacityRow noLink (last (ta .value) (tb .value)) tc c-is c-read (rw (le-ltb maxCapacity (tc .value) h)) ∙ to-c
+
+-- ---- the file, by the numbers and the links that were read
+after-refused : (p : Progress) (next : ℕ → Network → Progress) → p .number ≢ 0 → p ≡ after p next
+after-refused p next n = go (p .number) refl
+  where
+    go : (e : ℕ) → p .number ≡ e → p ≡ accepted e (next (p .place) (p .network)) (λ e. p)
+    go zero q = absurd (n q)
+    go (suc e) q = refl
+
+after-going : (p : Progress) (next : ℕ → Network → Progress) → p .number ≡ 0 → next (p .place) (p .network) ≡ after p next
+after-going p next z = rw z
+
+module _ (s : List ℕ) (tn : Taken) (n-is : tn ≡ taken s 0 noRow) where
+  links-on : ℕ → ℕ → ℕ → Progress
+  links-on n m next = after (readLinks s m (going next (unread n m))) (ended s)
+
+  from-m : ℕ → ℕ → Progress
+  from-m n next = taking s next linksRow stopped (links-on n)
+
+  pub n-unread : tn .number ≢ 0 → stopped (tn .number) 0 ≡ readAll s
+  unfolding readAll from-m links-on
+  n-unread h = stops-there s 0 nodesRow stopped from-m tn n-is h
+
+  module _ (n-read : tn .number ≡ 0) where
+    pub n-zero : tn .value ≡ 0 → stopped 4 0 ≡ readAll s
+    unfolding readAll from-m links-on
+    n-zero h = stops-by-row s 0 nodesRow stopped from-m tn n-is n-read 3 (rw (eq-eqb (tn .value) 0 h))
+
+    module _ (n-some : tn .value ≢ 0) where
+      pub n-high : maxNodes < tn .value → stopped 4 0 ≡ readAll s
+      unfolding readAll from-m links-on
+      n-high h = stops-by-row s 0 nodesRow stopped from-m tn n-is n-read 3 (rw (ne-eqb (tn .value) 0 n-some, lt-ltb maxNodes (tn .value) h))
+
+      module _ (n-within : tn .value ≤ maxNodes) (tm : Taken) (m-is : tm ≡ taken s (tn .next) noRow) where
+        to-m : from-m (tn .value) (tn .next) ≡ readAll s
+        unfolding readAll from-m links-on
+        to-m = goes-on s 0 nodesRow stopped from-m tn n-is n-read (rw (ne-eqb (tn .value) 0 n-some, le-ltb maxNodes (tn .value) n-within))
+
+        pub m-unread : tm .number ≢ 0 → stopped (tm .number) (tn .next) ≡ readAll s
+        unfolding from-m links-on
+        m-unread h = stops-there s (tn .next) linksRow stopped (links-on (tn .value)) tm m-is h ∙ to-m
+
+        module _ (m-read : tm .number ≡ 0) where
+          pub m-high : maxLinks < tm .value → stopped 5 (tn .next) ≡ readAll s
+          unfolding from-m links-on
+          m-high h = stops-by-row s (tn .next) linksRow stopped (links-on (tn .value)) tm m-is m-read 4 (rw (lt-ltb maxLinks (tm .value) h)) ∙ to-m
+
+          module _ (m-within : tm .value ≤ maxLinks) (p : Progress) (p-is : p ≡ readLinks s (tm .value) (going (tm .next) (unread (tn .value) (tm .value)))) where
+            to-links : after p (ended s) ≡ readAll s
+            unfolding from-m links-on
+            to-links =
+                ap (λ (r : Progress). after r (ended s)) p-is
+                ∙ goes-on s (tn .next) linksRow stopped (links-on (tn .value)) tm m-is m-read (rw (le-ltb maxLinks (tm .value) m-within)) ∙ to-m
+
+            pub links-refused : p .number ≢ 0 → p ≡ readAll s
+            links-refused h = after-refused p (ended s) h ∙ to-links
+
+            pub bytes-follow : p .number ≡ 0 → p .place < length s → stopped 9 (p .place) ≡ readAll s
+            bytes-follow z l =
+                ap (λ (b : Bool). pick b (stopped 9 (p .place)) (going (p .place) (p .network))) (sym (lt-ltb (p .place) (length s) l))
+                ∙ after-going p (ended s) z ∙ to-links
+
+            pub all-done : p .number ≡ 0 → length s ≤ p .place → p ≡ readAll s
+            all-done z l =
+                (λ i. record { number = z i; place = p .place; network = p .network })
+                ∙ ap (λ (b : Bool). pick b (stopped 9 (p .place)) (going (p .place) (p .network))) (sym (le-ltb (p .place) (length s) l))
+                ∙ after-going p (ended s) z ∙ to-links
+
+-- ---- the reply
+abbrev accepting : Network → Reading
+accepting net = record { number = 0; place = 0; network = net }
+
+abbrev refusing : ℕ → ℕ → Network → Reading
+refusing e place net = record { number = e; place = place; network = net }
+
+module _ (s : List ℕ) (p : Progress) (p-is : p ≡ readAll s) where
+  as-reading : Progress → Reading
+  as-reading r = record { number = r .number; place = accepted (r .number) 0 (λ e. r .place); network = r .network }
+
+  reply : as-reading p ≡ readFile s
+  unfolding readFile as-reading
+  reply = ap as-reading p-is
+
+  pub reads-network : p .number ≡ 0 → accepting (p .network) ≡ readFile s
+  unfolding as-reading
+  reads-network z = sym (ap (λ (e : ℕ). record { number = e; place = accepted e 0 (λ e. p .place); network = p .network }) z) ∙ reply
+
+  pub reads-fault : p .number ≢ 0 → refusing (p .number) (p .place) (p .network) ≡ readFile s
+  unfolding as-reading
+  reads-fault n = go (p .number) refl ∙ reply
+    where
+      go : (e : ℕ) → p .number ≡ e → refusing e (p .place) (p .network) ≡ record { number = e; place = accepted e 0 (λ e. p .place); network = p .network }
+      go zero q = absurd (n q)
+      go (suc e) q = refl

@@ -1,19 +1,11 @@
 -- `read_link` meets its contract: each return is one way through `linkAt`, by the numbers that were taken.
-use Prim.Native.Nat.{ℕ, _≤_, _<_}
-use mathlib.Core.Path.{_≡_, sym, ap, subst, _∙_}
-use mathlib.Core.List.{List}
+use Prim.Native.Nat.{_<_}
+use mathlib.Core.Path.{_∙_}
 use native.Mathlib.Omega.{arith}
-use lib.ListN.{length}
-use Rattle.network_file.specs.Reading.{noRow, taken}
-use Rattle.network_file.specs.ReadingSteps.{next-within, a-unread, a-outside, b-unread, b-outside, b-equal, c-unread, c-outside, link-read}
-use Rattle.network_file.specs.declared.Taken.{Taken}
+use Rattle.network_file.specs.ReadingSteps.{behind, a-unread, a-outside, b-unread, b-outside, b-equal, c-unread, c-outside, link-read}
 use borrow.Author.Needs.{needs}
 use Rattle.network_file.proofs.reader.read_link.Statement.{statement}
 use Rattle.network_file.proofs.reader.read_link.Tie as tie
-
--- the place behind a number is within the file
-behind : (s : List ℕ) (place : ℕ) (t : Taken) → t ≡ taken s place noRow → place ≤ length s → t .next ≤ length s
-behind s place t e l = subst (λ (u : Taken). u .next ≤ length s) (sym e) (next-within s place l)
 
 take-requires : tie.Need-take-requires
 take-requires c κs = search needs
