@@ -44,7 +44,7 @@ number-two v l = go (ltb v 128) refl
     go false e = rw (more-groups (maxGroups - 1) v (ltb-false v 128 e), last-group (maxGroups - 2) (v / 128) (omega arith)) (omega arith)
 
 -- ---- the file
-links-most : (net : Network) → networkFits net ≡ true → (k : ℕ) → k ≤ net .links → length (linkBytes net k) ≤ k * (2 + maxGroups)
+pub links-most : (net : Network) → networkFits net ≡ true → (k : ℕ) → k ≤ net .links → length (linkBytes net k) ≤ k * (2 + maxGroups)
 unfolding linkBytes
 links-most net e zero l = omega arith
 links-most net e (suc k) l =

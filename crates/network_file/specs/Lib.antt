@@ -14,3 +14,4 @@ pub mod Files
 pub mod NumberSteps
 pub mod ReadingSteps
 pub mod LinksSteps
+pub mod WritingSteps
