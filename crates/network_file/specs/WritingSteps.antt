@@ -94,15 +94,20 @@ abbrev written : ℕ → ℕ → FileWritten
 written e size = record { number = e; length = size }
 
 module _ (net : Network) where
-  pub file-is : fileOf net ≡ numberBytes (net .nodes) ++ (numberBytes (net .links) ++ linkBytes net (net .links))
+  pub file-long : length (numberBytes (net .nodes)) + length (numberBytes (net .links)) + length (linkBytes net (net .links)) ≡ length (fileOf net)
   unfolding fileOf
-  file-is = refl
+  file-long = three-long (numberBytes (net .nodes)) (numberBytes (net .links)) (linkBytes net (net .links))
 
   -- too short a buffer is refused and stays; any other holds the file
   pub refuses-short : (l : List ℕ) → length l < length (fileOf net) → (written 18 0 ≡ fileWriteOf net (length l)) × (l ≡ fileWrittenTo net l)
   unfolding fileWriteOf fileWrittenTo
   refuses-short l h = rw (lt-ltb (length l) (length (fileOf net)) h) (refl, refl)
 
-  pub fills-front : (l : List ℕ) → length (fileOf net) ≤ length l → (written 0 (length (fileOf net)) ≡ fileWriteOf net (length l)) × (sets l 0 (fileOf net) ≡ fileWrittenTo net l)
-  unfolding fileWriteOf fileWrittenTo
-  fills-front l h = rw (le-ltb (length l) (length (fileOf net)) h) (refl, refl)
+  pub fills-front : (second third : ℕ) (l l₁ l₂ l₃ : List ℕ) → length (fileOf net) ≤ length l
+      → second ≡ 0 + length (numberBytes (net .nodes)) → third ≡ second + length (numberBytes (net .links))
+      → l₁ ≡ sets l 0 (numberBytes (net .nodes)) → l₂ ≡ sets l₁ second (numberBytes (net .links)) → l₃ ≡ sets l₂ third (linkBytes net (net .links))
+      → (written 0 (length (fileOf net)) ≡ fileWriteOf net (length l)) × (l₃ ≡ fileWrittenTo net l)
+  unfolding fileWriteOf fileWrittenTo fileOf
+  fills-front second third l l₁ l₂ l₃ h s t e₁ e₂ e₃ =
+      rw (le-ltb (length l) (length (fileOf net)) h)
+      (refl, three-runs (numberBytes (net .nodes)) (numberBytes (net .links)) (linkBytes net (net .links)) 0 second third s t l l₁ l₂ l₃ e₁ e₂ e₃)

@@ -1,42 +1,48 @@
+-- `file_length` meets its contract.
+use Prim.Native.Nat.{_<_, _^_}
+use native.Mathlib.Omega.{arith}
+use Rattle.network.specs.NetworkLaws.{nodes-le, links-le}
+use Rattle.network_file.specs.LengthLaws.{file-most}
+use Rattle.network_file.specs.WritingSteps.{file-long}
 use borrow.Author.Needs.{needs}
 use Rattle.network_file.proofs.writer.file_length.Statement.{statement}
 use Rattle.network_file.proofs.writer.file_length.Tie as tie
-use Rattle.network_file.proofs.writer.file_length.Reads as reads
-use Rattle.network_file.proofs.writer.file_length.Lts as lts
-use Rattle.network_file.proofs.numbers.number_length.Reads as number-length-reads
-use Rattle.network_file.proofs.writer.links_length.Reads as links-length-reads
 
--- src/writer.rt:39:19
 cast-number-length : tie.Need-cast-number-length
-cast-number-length c = ?
+cast-number-length c =
+    let st = c .before in
+    let small : st .args .net .nodes < 2 ^ 32 = omega (arith, nodes-le (st .args .net) (st .pre)) in
+    record { fits = small }
 
--- src/writer.rt:39:5
 number-length-requires : tie.Need-number-length-requires
 number-length-requires c κs = search needs
 
--- src/writer.rt:39:53
 cast-number-length-2 : tie.Need-cast-number-length-2
-cast-number-length-2 c = ?
+cast-number-length-2 c =
+    let st = c .before .before .before in
+    let small : st .args .net .links < 2 ^ 32 = omega (arith, links-le (st .args .net) (st .pre)) in
+    record { fits = small }
 
--- src/writer.rt:39:39
 number-length-requires-2 : tie.Need-number-length-requires-2
 number-length-requires-2 c κs = search needs
 
--- src/writer.rt:39:5
 add-result : tie.Need-add-result
-add-result c = ?
+add-result c =
+    let st = c .before .before .before .before in
+    omega (arith, file-most (st .args .net) (st .pre), file-long (st .args .net))
 
--- src/writer.rt:39:73
 links-length-requires : tie.Need-links-length-requires
 links-length-requires c κs = search needs
 
--- src/writer.rt:39:5
 add-result-2 : tie.Need-add-result-2
-add-result-2 c = ?
+add-result-2 c =
+    let st = c .before .before .before .before .before in
+    omega (arith, file-most (st .args .net) (st .pre), file-long (st .args .net))
 
--- src/writer.rt:35:1
 returns : tie.Need-returns
-returns c = ?
+returns c =
+    let st = c .before .before .before .before .before in
+    omega (arith, file-long (st .args .net))
 
 pub file-length-spec : {M : Type 1} → statement M
 file-length-spec =
