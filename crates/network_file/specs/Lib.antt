@@ -15,3 +15,4 @@ pub mod NumberSteps
 pub mod ReadingSteps
 pub mod LinksSteps
 pub mod WritingSteps
+pub mod Readings
