@@ -6,7 +6,7 @@ use mathlib.Core.List.{List}
 use native.Mathlib.Omega.{arith}
 use native.Mathlib.Decide.{ℕ-discrete}
 use native.Mathlib.Numerals.{add-one}
-use lib.ListN.{length, drop, set, replicate, length-drop, length-set, length-replicate}
+use lib.ListN.{length, set, replicate, length-drop}
 use Rattle.network.specs.Checks.{accepted}
 use Rattle.network.specs.Limits.{maxLinks}
 use Rattle.network.specs.declared.Network.{Network}

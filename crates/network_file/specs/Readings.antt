@@ -1,5 +1,5 @@
 -- "Readings to check", those of files: a table, what it means that a row holds, and that all do. P8 to P12, and the numbers beside their limits.
-use Prim.Native.Nat.{ℕ, zero, suc}
+use Prim.Native.Nat.{ℕ}
 use mathlib.Core.Path.{_≡_, refl}
 use mathlib.Core.Bool.{Bool, true, false, _&&_}
 use mathlib.Core.List.{List, [], _∷_}
@@ -56,11 +56,11 @@ resortA = 0x04 ∷ 0x05 ∷ 0x00 ∷ 0x01 ∷ 0x05 ∷ 0x01 ∷ 0x02 ∷ 0x03 �
 
 unfoldable pub table : List Case
 table =
-    refused [] 1 0 -- P8
-    ∷ refused (0x80 ∷ 0x80 ∷ 0x80 ∷ []) 2 0 -- P9
-    ∷ refused (0x02 ∷ 0x01 ∷ 0x00 ∷ 0x01 ∷ 0x80 ∷ 0x00 ∷ []) 3 4 -- P10
-    ∷ refused (0x02 ∷ 0x01 ∷ 0x00 ∷ 0x00 ∷ 0x00 ∷ []) 7 3 -- P11
-    ∷ refused (0x01 ∷ 0x00 ∷ 0x00 ∷ []) 9 2 -- P12
+    refused [] 1 0  -- P8
+    ∷ refused (0x80 ∷ 0x80 ∷ 0x80 ∷ []) 2 0  -- P9
+    ∷ refused (0x02 ∷ 0x01 ∷ 0x00 ∷ 0x01 ∷ 0x80 ∷ 0x00 ∷ []) 3 4  -- P10
+    ∷ refused (0x02 ∷ 0x01 ∷ 0x00 ∷ 0x00 ∷ 0x00 ∷ []) 7 3  -- P11
+    ∷ refused (0x01 ∷ 0x00 ∷ 0x00 ∷ []) 9 2  -- P12
     ∷ reads resortA 4 (0 ∷ 1 ∷ 2 ∷ 0 ∷ 0 ∷ []) (1 ∷ 2 ∷ 3 ∷ 3 ∷ 2 ∷ []) (5 ∷ 3 ∷ 4 ∷ 2 ∷ 1 ∷ [])
     -- capacity 1,000,000 and one more
     ∷ reads (0x02 ∷ 0x01 ∷ 0x00 ∷ 0x01 ∷ 0xC0 ∷ 0x84 ∷ 0x3D ∷ []) 2 (0 ∷ []) (1 ∷ []) (1000000 ∷ [])

@@ -1,24 +1,17 @@
 -- Writing in the steps of the code: numbers and links, one behind the other.
-use Prim.Native.Nat.{ℕ, zero, suc, _+_, _*_, _≤_, _<_}
+use Prim.Native.Nat.{ℕ, zero, suc, _+_, _≤_, _<_}
 use mathlib.Core.Path.{_≡_, refl, sym, ap, _∙_}
-use mathlib.Core.Bool.{true}
 use mathlib.Core.List.{List, [], _∷_, _++_, append-assoc}
 use native.Mathlib.Omega.{arith}
 use native.Mathlib.Decide.{ℕ-discrete}
 use native.Mathlib.Numerals.{add-one}
 use lib.ListN.{length, set, length-append}
 use lib.Seq.{sets, length-sets}
-use lib.Dec.{ltb}
 use borrow.Author.Tests.{lt-ltb, le-ltb}
 use Rattle.network.specs.Basics.{at}
-use Rattle.network.specs.Checks.{accepted}
-use Rattle.network.specs.Limits.{maxLinks, maxGroups}
-use Rattle.network.specs.Network.{networkFits}
-use Rattle.network.specs.NetworkLaws.{links-le}
 use Rattle.network.specs.declared.Network.{Network}
 use Rattle.network_file.specs.Number.{numberBytes}
-use Rattle.network_file.specs.Writing.{bytesOfLink, linkBytes, fileOf, maxFile, fileWriteNumber, fileWriteOf, fileWrittenTo}
-use Rattle.network_file.specs.LengthLaws.{number-most, file-most}
+use Rattle.network_file.specs.Writing.{bytesOfLink, linkBytes, fileOf, fileWriteOf, fileWrittenTo}
 use Rattle.network_file.specs.declared.FileWritten.{FileWritten}
 
 -- ---- what is stored in two runs

@@ -1,5 +1,4 @@
 -- `read_all` meets its contract: each return is one way through `readAll`, by what was taken and read.
-use Prim.Native.Nat.{_≤_}
 use mathlib.Core.Path.{_∙_}
 use native.Mathlib.Omega.{arith}
 use Rattle.network_file.specs.ReadingSteps.{behind, n-unread, n-zero, n-high, m-unread, m-high, links-refused, bytes-follow, all-done}

@@ -1,7 +1,6 @@
 -- `read_links` meets its contract. The loop's invariant: the arrays hold the first k links, and reading goes on at `next`.
-use Prim.Native.Nat.{_-_, _≤_}
-use mathlib.Core.Path.{_≡_, _∙_}
-use native.Mathlib.Omega.{arith}
+use Prim.Native.Nat.{_-_}
+use mathlib.Core.Path.{_∙_}
 use Rattle.network_file.specs.LinksSteps.{LinksRead, none-read, all-links, one-more, one-refused}
 use borrow.Author.Needs.{needs}
 use Rattle.network_file.proofs.reader.read_links.Statement.{statement}
