@@ -54,33 +54,32 @@ pub record LinksWritten (net : Network) (before : List ℕ) (place : ℕ) (out :
   pub next-is : next ≡ place + length (linkBytes net k)
   pub out-is : out ≡ sets before place (linkBytes net k)
 
-module _ (net : Network) (before : List ℕ) (place : ℕ) where
-  pub none-written : LinksWritten net before place before place 0
-  unfolding linkBytes
-  none-written = record { some = omega arith; next-is = omega arith; out-is = refl }
+pub none-written : (net : Network) (before : List ℕ) (place : ℕ) → LinksWritten net before place before place 0
+unfolding linkBytes
+none-written net before place = record { some = omega arith; next-is = omega arith; out-is = refl }
 
-  module _ (out : List ℕ) (next k : ℕ) (h : LinksWritten net before place out next k) where
-    pub same-room : length out ≡ length before
-    same-room = ap length (h .out-is) ∙ length-sets before place (linkBytes net k)
+module _ {net : Network} {before : List ℕ} {place : ℕ} {out : List ℕ} {next k : ℕ} (h : LinksWritten net before place out next k) where
+  pub same-room : length out ≡ length before
+  same-room = ap length (h .out-is) ∙ length-sets before place (linkBytes net k)
 
-    pub all-written : net .links ≤ k → out ≡ sets before place (linkBytes net (net .links))
-    all-written l = let e : k ≡ net .links = omega (arith, h .some) in h .out-is ∙ ap (λ (j : ℕ). sets before place (linkBytes net j)) e
+  pub all-written : net .links ≤ k → out ≡ sets before place (linkBytes net (net .links))
+  all-written l = let e : k ≡ net .links = omega (arith, h .some) in h .out-is ∙ ap (λ (j : ℕ). sets before place (linkBytes net j)) e
 
-    module _ (l : k < net .links) where
-      pub has-room : place + length (linkBytes net (net .links)) ≤ length before → next + length (linkOf net k) ≤ length out
-      has-room fits = omega (arith, h .next-is, same-room, links-up net (net .links) k l)
+  module _ (l : k < net .links) where
+    pub has-room : place + length (linkBytes net (net .links)) ≤ length before → next + length (linkOf net k) ≤ length out
+    has-room fits = omega (arith, h .next-is, same-room, links-up net (net .links) k l)
 
-      pub one-written : (now : List ℕ) (behind : ℕ) → behind ≡ next + length (linkOf net k) → now ≡ sets out next (linkOf net k) → LinksWritten net before place now behind (k + 1)
-      unfolding linkBytes
-      one-written now behind b e =
-          record {
-            some = omega arith;
-            next-is = omega (arith, h .next-is, links-more net k);
-            out-is =
-                e ∙ ap (λ (r : List ℕ). sets r next (linkOf net k)) (h .out-is)
-                ∙ ap (λ (j : ℕ). sets (sets before place (linkBytes net k)) j (linkOf net k)) (h .next-is)
-                ∙ sets-append (linkBytes net k) (linkOf net k) before place ∙ rw add-one;
-          }
+    pub one-written : (now : List ℕ) (behind : ℕ) → behind ≡ next + length (linkOf net k) → now ≡ sets out next (linkOf net k) → LinksWritten net before place now behind (k + 1)
+    unfolding linkBytes
+    one-written now behind b e =
+        record {
+          some = omega arith;
+          next-is = omega (arith, h .next-is, links-more net k);
+          out-is =
+              e ∙ ap (λ (r : List ℕ). sets r next (linkOf net k)) (h .out-is)
+              ∙ ap (λ (j : ℕ). sets (sets before place (linkBytes net k)) j (linkOf net k)) (h .next-is)
+              ∙ sets-append (linkBytes net k) (linkOf net k) before place ∙ rw add-one;
+        }
 
 -- ---- the file
 abbrev written : ℕ → ℕ → FileWritten

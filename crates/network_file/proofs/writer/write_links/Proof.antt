@@ -14,7 +14,7 @@ abbrev μ-loop : tie.MeasureT-loop
 μ-loop out₀ place net m next₀ k₀ out next k = net .links - k
 
 loop-holds : tie.Need-loop-holds Inv-loop μ-loop
-loop-holds c = none-written (c .before .args .t1) (c .before .args .out .now) (c .before .args .place)
+loop-holds c = none-written _ _ _
 
 element-copy-out-write-link : tie.Need-element-copy-out-write-link Inv-loop μ-loop
 element-copy-out-write-link c = omega (arith, links-le (c .before .before .before .before .args .t1) (c .before .before .before .before .pre .0))
@@ -33,7 +33,7 @@ write-link-requires c κs =
     let inside = c .before .before .before .before in
     let at = inside .before in
     let st = at .before .before in
-    has-room (st .args .t1) (st .args .out .now) (st .args .place) (at .loop .out) (at .loop .next) (at .loop .k) (at .loop .inv) (inside .loop-test .taken) (st .pre .1)
+    has-room (at .loop .inv) (inside .loop-test .taken) (st .pre .1)
 
 add-k : tie.Need-add-k Inv-loop μ-loop
 add-k c = search needs
@@ -46,21 +46,17 @@ loop-again c =
     let w = c .before .before in
     let inside = w .before .before .before .before .before in
     let at = inside .before in
-    let st = at .before .before in
-    one-written (st .args .t1) (st .args .out .now) (st .args .place) (at .loop .out) (at .loop .next) (at .loop .k) (at .loop .inv) (inside .loop-test .taken)
-    _ _ (w .write-link .ensures .0) (w .write-link .ensures .1)
+    one-written (at .loop .inv) (inside .loop-test .taken) _ _ (w .write-link .ensures .0) (w .write-link .ensures .1)
 
 same-length : tie.Need-same-length Inv-loop μ-loop
 same-length c =
     let at = c .before in
-    let st = at .before .before in
-    same-room (st .args .t1) (st .args .out .now) (st .args .place) (at .loop .out) (at .loop .next) (at .loop .k) (at .loop .inv)
+    same-room (at .loop .inv)
 
 returns : tie.Need-returns Inv-loop μ-loop
 returns c =
     let at = c .before in
-    let st = at .before .before in
-    all-written (st .args .t1) (st .args .out .now) (st .args .place) (at .loop .out) (at .loop .next) (at .loop .k) (at .loop .inv) (c .loop-test .left)
+    all-written (at .loop .inv) (c .loop-test .left)
 
 pub write-links-spec : {M : Type 1} → statement M
 write-links-spec =
