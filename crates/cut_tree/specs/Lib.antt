@@ -1,3 +1,6 @@
 pub mod Rule
 pub mod Rebuild
 pub mod Path
+pub mod Climb
+pub mod ClimbLaws
+pub mod QueryLaws

@@ -1,3 +1,6 @@
+pub mod path;
+pub use path::{reaches_root, MAX_CLIMB};
+
 // A cut tree: every node's parent, and the weight of the edge between them. Node 0 has parent 0 and weight 0.
 pub struct Tree {
     pub parent: [u8; 64],

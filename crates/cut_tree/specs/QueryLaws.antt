@@ -1,0 +1,145 @@
+-- Laws of the pair query: the lightest edge found by two climbs is the first of the lightest on the tree path.
+use Prim.Native.Nat.{ℕ, zero, suc, _-_, _≤_, _<_}
+use mathlib.Core.Path.{_≡_, refl, sym, ap, subst, _∙_}
+use mathlib.Core.Bool.{Bool, true, false, not, _||_, true≢false}
+use mathlib.Core.Logic.{_≢_}
+use mathlib.Core.List.{List, [], _∷_, _++_, reverse, reverseAux, reverse-cons}
+use native.Mathlib.Omega.{arith}
+use native.Mathlib.Decide.{ℕ-discrete}
+use lib.Dec.{ltb, eqb}
+use borrow.Author.Tests.{eqb-true, eqb-false, eq-eqb, ne-eqb, lt-ltb, le-ltb}
+use Rattle.min_cut.specs.Word.{holds}
+use Rattle.network.specs.Basics.{pick, at}
+use Rattle.cut_tree.specs.Path.{maxClimb, reaches, climb, among, without, path, lightest, lightestOn}
+use Rattle.cut_tree.specs.Climb.{Inside, Climbs, climbTo, lighter, lightestFrom}
+use Rattle.cut_tree.specs.ClimbLaws.{inside-lt, inside-next, among-on, climb-nonzero}
+use Rattle.cut_tree.specs.declared.Tree.{Tree}
+
+-- ---- membership in what a path is made of
+among-append : (v : ℕ) (xs ys : List ℕ) → among v (xs ++ ys) ≡ (among v xs || among v ys)
+unfolding among
+among-append v [] ys = refl
+among-append v (x ∷ xs) ys = rw (among-append v xs ys) (either (eqb v x))
+  where
+    either : (z : Bool) → pick z true (among v xs || among v ys) ≡ (pick z true (among v xs) || among v ys)
+    either true = refl
+    either false = refl
+
+among-reverseAux : (v : ℕ) (xs ys : List ℕ) → among v (reverseAux xs ys) ≡ (among v xs || among v ys)
+unfolding among
+among-reverseAux v [] ys = refl
+among-reverseAux v (x ∷ xs) ys = among-reverseAux v xs (x ∷ ys) ∙ either (eqb v x) (among v xs)
+  where
+    either : (z w : Bool) → (w || pick z true (among v ys)) ≡ (pick z true w || among v ys)
+    either true true = refl
+    either true false = refl
+    either false w = refl
+
+or-false : (z : Bool) → (z || false) ≡ z
+or-false true = refl
+or-false false = refl
+
+among-reverse : (v : ℕ) (xs : List ℕ) → among v (reverse xs) ≡ among v xs
+unfolding among
+among-reverse v xs = among-reverseAux v xs [] ∙ or-false (among v xs)
+
+without-fewer : (v : ℕ) (ys xs : List ℕ) → among v xs ≡ false → among v (without ys xs) ≡ false
+unfolding among without
+without-fewer v ys [] e = refl
+without-fewer v ys (x ∷ xs) e = go (eqb v x) refl e (without-fewer v ys xs) (among x ys)
+  where
+    go : (z : Bool) → eqb v x ≡ z → pick z true (among v xs) ≡ false → (among v xs ≡ false → among v (without ys xs) ≡ false)
+        → (w : Bool) → among v (pick w (without ys xs) (x ∷ without ys xs)) ≡ false
+    go true q f ih w = absurd (true≢false f)
+    go false q f ih true = ih f
+    go false q f ih false = rw q (ih f)
+
+path-nonzero : (parent : List ℕ) (s t : ℕ) → among 0 (path parent s t) ≡ false
+unfolding path
+path-nonzero parent s t =
+    let up = climb parent maxClimb s in
+    let down = climb parent maxClimb t in
+    let u : among 0 (without down up) ≡ false = without-fewer 0 down up (climb-nonzero parent maxClimb s) in
+    let d : among 0 (reverse (without up down)) ≡ false = among-reverse 0 (without up down) ∙ without-fewer 0 up down (climb-nonzero parent maxClimb t) in
+    among-append 0 (without down up) (reverse (without up down)) ∙ rw (u, d)
+
+-- ---- the lightest so far
+module _ (weight : List ℕ) where
+  pub from-append : (b : ℕ) (xs ys : List ℕ) → lightestFrom weight b (xs ++ ys) ≡ lightestFrom weight (lightestFrom weight b xs) ys
+  unfolding lightestFrom
+  from-append b [] ys = refl
+  from-append b (x ∷ xs) ys = from-append (lighter weight b x) xs ys
+
+  pub from-reverse : (b x : ℕ) (xs : List ℕ) → lightestFrom weight b (reverse (x ∷ xs)) ≡ lighter weight (lightestFrom weight b (reverse xs)) x
+  unfolding lightestFrom
+  from-reverse b x xs = rw (reverse-cons x xs) (from-append b (reverse xs) (x ∷ []))
+
+  -- with one at hand it is the first of the lightest
+  from-some : (v : ℕ) (xs : List ℕ) → (v ≡ 0 → ⊥) → among 0 xs ≡ false → lightestFrom weight v xs ≡ lightest weight v xs
+  unfolding lightestFrom lightest among
+  from-some v [] n e = refl
+  from-some v (x ∷ xs) n e = rw (ne-eqb v 0 n) (go (eqb 0 x) refl e (ltb (at weight x) (at weight v)) (λ w m. from-some w xs m))
+    where
+      go : (z : Bool) → eqb 0 x ≡ z → pick z true (among 0 xs) ≡ false → (l : Bool) → ((w : ℕ) → (w ≡ 0 → ⊥) → among 0 xs ≡ false → lightestFrom weight w xs ≡ lightest weight w xs)
+          → lightestFrom weight (pick l x v) xs ≡ lightest weight (pick l x v) xs
+      go true q f l ih = absurd (true≢false f)
+      go false q f true ih = ih x (λ m. eqb-false 0 x q (sym m)) f
+      go false q f false ih = ih v n f
+
+  from-none : (xs : List ℕ) → among 0 xs ≡ false → lightestFrom weight 0 xs ≡ lightest weight (at xs 0) xs
+  unfolding lightestFrom lightest among
+  from-none [] e = refl
+  from-none (x ∷ xs) e = rw (le-ltb (at weight x) (at weight x) (omega arith)) (go (eqb 0 x) refl e)
+    where
+      go : (z : Bool) → eqb 0 x ≡ z → pick z true (among 0 xs) ≡ false → lightestFrom weight x xs ≡ lightest weight x xs
+      go true q f = absurd (true≢false f)
+      go false q f = from-some x xs (λ m. eqb-false 0 x q (sym m)) f
+
+-- the two climbs, one after the other
+pub lightest-on : (tree : Tree) (s t first : ℕ)
+    → first ≡ lightestFrom (tree .weight) 0 (without (climb (tree .parent) maxClimb t) (climb (tree .parent) maxClimb s))
+    → lightestFrom (tree .weight) first (reverse (without (climb (tree .parent) maxClimb s) (climb (tree .parent) maxClimb t))) ≡ lightestOn tree s t
+unfolding lightestOn path
+lightest-on tree s t first e =
+    let up = climb (tree .parent) maxClimb s in
+    let down = climb (tree .parent) maxClimb t in
+    rw e (sym (from-append (tree .weight) 0 (without down up) (reverse (without up down)))) ∙ from-none (tree .weight) (path (tree .parent) s t) (path-nonzero (tree .parent) s t)
+
+-- ---- what is found is a node
+module _ (weight : List ℕ) (k : ℕ) where
+  lighter-below : (b x : ℕ) → b < k → x < k → lighter weight b x < k
+  lighter-below b x bl xl = go (eqb b 0) (ltb (at weight x) (at weight b))
+    where
+      go : (y z : Bool) → pick y x (pick z x b) < k
+      go true z = xl
+      go false true = xl
+      go false false = bl
+
+  from-below : (b : ℕ) (xs : List ℕ) → b < k → ((x : ℕ) → among x xs ≡ true → x < k) → lightestFrom weight b xs < k
+  unfolding lightestFrom among
+  from-below b [] l h = l
+  from-below b (x ∷ xs) l h = from-below (lighter weight b x) xs (lighter-below b x l (h x (rw (eq-eqb x x refl)))) (λ y m. h y (rw m (either (eqb y x))))
+    where
+      either : (z : Bool) → pick z true true ≡ true
+      either true = refl
+      either false = refl
+
+module _ (parent : List ℕ) (stop : ℕ) where
+  climbTo-below : (left i : ℕ) → Inside parent i → (x : ℕ) → among x (climbTo stop parent left i) ≡ true → x < 64
+  unfolding climbTo among
+  climbTo-below zero i h x m = absurd (true≢false (sym m))
+  climbTo-below (suc left) i h x m = go (eqb i 0) (holds stop i) (ℕ-discrete x i) m (climbTo-below left (at parent i) (inside-next h) x)
+    where
+      go : (y z : Bool) → Dec (x ≡ i) → among x (pick y [] (pick z [] (i ∷ climbTo stop parent left (at parent i)))) ≡ true
+          → (among x (climbTo stop parent left (at parent i)) ≡ true → x < 64) → x < 64
+      go true z d e ih = absurd (true≢false (sym e))
+      go false true d e ih = absurd (true≢false (sym e))
+      go false false (yes d) e ih = rw d (inside-lt h)
+      go false false (no d) e ih = ih (sym (among-on x i (climbTo stop parent left (at parent i)) d) ∙ e)
+
+  pub up-below : (weight : List ℕ) (left i b : ℕ) → Inside parent i → b < 64 → lightestFrom weight b (climbTo stop parent left i) < 64
+  up-below weight left i b h l = from-below weight 64 b (climbTo stop parent left i) l (climbTo-below left i h)
+
+  pub down-below : (weight : List ℕ) (left i b : ℕ) → Inside parent i → b < 64 → lightestFrom weight b (reverse (climbTo stop parent left i)) < 64
+  down-below weight left i b h l =
+      from-below weight 64 b (reverse (climbTo stop parent left i)) l (λ x m. climbTo-below left i h x (sym (among-reverse x (climbTo stop parent left i)) ∙ m))
