@@ -35,7 +35,7 @@ addedAll x [] = x
 addedAll x (i ∷ is) = addedAll (added x i) is
 
 -- the lighter of best and i, best where they are equal; i where there is none yet, which is 0
-abbrev pub lighter : List ℕ → ℕ → ℕ → ℕ
+unfoldable pub lighter : List ℕ → ℕ → ℕ → ℕ
 lighter weight best i = pick (eqb best 0) i (pick (ltb (at weight i) (at weight best)) i best)
 
 unfoldable pub lightestFrom : List ℕ → ℕ → List ℕ → ℕ
@@ -53,3 +53,10 @@ pub record Known (parent : List ℕ) (v x i left j : ℕ) : Type 0 where
 abbrev pub addedIf : Bool → ℕ → ℕ → ℕ
 addedIf true x i = added x i
 addedIf false x i = x
+
+-- two nodes that climb to node 0
+pub record Pair (parent : List ℕ) (s t : ℕ) : Type 0 where
+  pub from : Inside parent s
+  pub to : Inside parent t
+  pub rooted-s : reaches parent maxClimb s ≡ true
+  pub rooted-t : reaches parent maxClimb t ≡ true

@@ -116,7 +116,7 @@ module _ (parent : List ℕ) where
       go false e ih = among-on 0 i (climb parent left (at parent i)) (λ q. eqb-false i 0 e (sym q)) ∙ ih
 
   -- starts at its node
-  climb-starts : (a i : ℕ) → reaches parent a i ≡ true → (i ≡ 0 → ⊥) → among i (climb parent a i) ≡ true
+  pub climb-starts : (a i : ℕ) → reaches parent a i ≡ true → (i ≡ 0 → ⊥) → among i (climb parent a i) ≡ true
   unfolding reaches climb
   climb-starts zero i r n = absurd (n (eqb-true i 0 r))
   climb-starts (suc a) i r n = rw (ne-eqb i 0 n) (among-here i (climb parent a (at parent i)))

@@ -4,3 +4,4 @@ pub mod Path
 pub mod Climb
 pub mod ClimbLaws
 pub mod QueryLaws
+pub mod SideLaws

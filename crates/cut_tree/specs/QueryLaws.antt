@@ -9,10 +9,12 @@ use native.Mathlib.Decide.{ℕ-discrete}
 use lib.Dec.{ltb, eqb}
 use borrow.Author.Tests.{eqb-true, eqb-false, eq-eqb, ne-eqb, lt-ltb, le-ltb}
 use Rattle.min_cut.specs.Word.{holds}
+use Rattle.node_set.specs.Set.{empty, added}
+use Rattle.node_set.specs.SetLaws.{holds-empty, holds-added}
 use Rattle.network.specs.Basics.{pick, at}
 use Rattle.cut_tree.specs.Path.{maxClimb, reaches, climb, among, without, path, lightest, lightestOn}
-use Rattle.cut_tree.specs.Climb.{Inside, Climbs, climbTo, lighter, lightestFrom}
-use Rattle.cut_tree.specs.ClimbLaws.{inside-lt, inside-next, among-on, climb-nonzero}
+use Rattle.cut_tree.specs.Climb.{Inside, Pair, climbTo, addedAll, lighter, lightestFrom}
+use Rattle.cut_tree.specs.ClimbLaws.{inside-lt, inside-next, among-on, climb-nonzero, climb-closed, climbTo-without}
 use Rattle.cut_tree.specs.declared.Tree.{Tree}
 
 -- ---- membership in what a path is made of
@@ -74,9 +76,37 @@ module _ (weight : List ℕ) where
   unfolding lightestFrom
   from-reverse b x xs = rw (reverse-cons x xs) (from-append b (reverse xs) (x ∷ []))
 
+  -- by the ways through the code
+  pub lighter-none : (b i : ℕ) → b ≡ 0 → i ≡ lighter weight b i
+  unfolding lighter
+  lighter-none b i e = rw (eq-eqb b 0 e)
+
+  pub lighter-less : (b i : ℕ) → (b ≡ 0 → ⊥) → at weight i < at weight b → i ≡ lighter weight b i
+  unfolding lighter
+  lighter-less b i n l = rw (ne-eqb b 0 n, lt-ltb (at weight i) (at weight b) l)
+
+  pub lighter-more : (b i : ℕ) → (b ≡ 0 → ⊥) → at weight b ≤ at weight i → b ≡ lighter weight b i
+  unfolding lighter
+  lighter-more b i n l = rw (ne-eqb b 0 n, le-ltb (at weight i) (at weight b) l)
+
+  pub up-none : (b : ℕ) (xs : List ℕ) → xs ≡ [] → b ≡ lightestFrom weight b xs
+  unfolding lightestFrom
+  up-none b xs e = rw e
+
+  pub up-on : (b i c r : ℕ) (xs ys : List ℕ) → xs ≡ i ∷ ys → c ≡ lighter weight b i → r ≡ lightestFrom weight c ys → r ≡ lightestFrom weight b xs
+  unfolding lightestFrom
+  up-on b i c r xs ys e f g = rw (g, f, e)
+
+  pub down-none : (b : ℕ) (xs : List ℕ) → xs ≡ [] → b ≡ lightestFrom weight b (reverse xs)
+  unfolding lightestFrom
+  down-none b xs e = rw e
+
+  pub down-on : (b i c r : ℕ) (xs ys : List ℕ) → xs ≡ i ∷ ys → c ≡ lightestFrom weight b (reverse ys) → r ≡ lighter weight c i → r ≡ lightestFrom weight b (reverse xs)
+  down-on b i c r xs ys e f g = g ∙ rw (f, e) (sym (from-reverse b i ys))
+
   -- with one at hand it is the first of the lightest
   from-some : (v : ℕ) (xs : List ℕ) → (v ≡ 0 → ⊥) → among 0 xs ≡ false → lightestFrom weight v xs ≡ lightest weight v xs
-  unfolding lightestFrom lightest among
+  unfolding lightestFrom lightest lighter among
   from-some v [] n e = refl
   from-some v (x ∷ xs) n e = rw (ne-eqb v 0 n) (go (eqb 0 x) refl e (ltb (at weight x) (at weight v)) (λ w m. from-some w xs m))
     where
@@ -87,7 +117,7 @@ module _ (weight : List ℕ) where
       go false q f false ih = ih v n f
 
   from-none : (xs : List ℕ) → among 0 xs ≡ false → lightestFrom weight 0 xs ≡ lightest weight (at xs 0) xs
-  unfolding lightestFrom lightest among
+  unfolding lightestFrom lightest lighter among
   from-none [] e = refl
   from-none (x ∷ xs) e = rw (le-ltb (at weight x) (at weight x) (omega arith)) (go (eqb 0 x) refl e)
     where
@@ -95,19 +125,53 @@ module _ (weight : List ℕ) where
       go true q f = absurd (true≢false f)
       go false q f = from-some x xs (λ m. eqb-false 0 x q (sym m)) f
 
--- the two climbs, one after the other
-pub lightest-on : (tree : Tree) (s t first : ℕ)
+-- ---- the set of a climb
+pub added-none : (x : ℕ) (xs : List ℕ) → xs ≡ [] → x ≡ addedAll x xs
+unfolding addedAll
+added-none x xs e = rw e
+
+pub added-on : (x i y r : ℕ) (xs ys : List ℕ) → xs ≡ i ∷ ys → y ≡ added x i → r ≡ addedAll y ys → r ≡ addedAll x xs
+unfolding addedAll
+added-on x i y r xs ys e f g = rw (g, f, e)
+
+holds-addedAll : (x : ℕ) (xs : List ℕ) (v : ℕ) → holds (addedAll x xs) v ≡ (holds x v || among v xs)
+unfolding addedAll among
+holds-addedAll x [] v = sym (or-false (holds x v))
+holds-addedAll x (i ∷ is) v = holds-addedAll (added x i) is v ∙ rw (holds-added x i v) (either (holds x v) (eqb v i))
+  where
+    either : (y z : Bool) → ((y || z) || among v is) ≡ (y || pick z true (among v is))
+    either true z = refl
+    either false true = refl
+    either false false = refl
+
+-- ---- the two climbs, one after the other
+lightest-both : (tree : Tree) (s t first : ℕ)
     → first ≡ lightestFrom (tree .weight) 0 (without (climb (tree .parent) maxClimb t) (climb (tree .parent) maxClimb s))
     → lightestFrom (tree .weight) first (reverse (without (climb (tree .parent) maxClimb s) (climb (tree .parent) maxClimb t))) ≡ lightestOn tree s t
 unfolding lightestOn path
-lightest-on tree s t first e =
+lightest-both tree s t first e =
     let up = climb (tree .parent) maxClimb s in
     let down = climb (tree .parent) maxClimb t in
     rw e (sym (from-append (tree .weight) 0 (without down up) (reverse (without up down)))) ∙ from-none (tree .weight) (path (tree .parent) s t) (path-nonzero (tree .parent) s t)
 
+module _ (tree : Tree) (s t : ℕ) (h : Pair (tree .parent) s t) where
+  abbrev ps : List ℕ
+  ps = tree .parent
+
+  -- a climb from i stops at the nodes of the climb from j
+  stops : (i j x : ℕ) → reaches ps maxClimb j ≡ true → x ≡ addedAll empty (climb ps maxClimb j) → climbTo x ps maxClimb i ≡ without (climb ps maxClimb j) (climb ps maxClimb i)
+  stops i j x r e =
+      climbTo-without ps (climb ps maxClimb j) x (λ v. rw (e, holds-addedAll empty (climb ps maxClimb j) v, holds-empty v)) (λ v m n. climb-closed ps maxClimb j v r m n) maxClimb i
+
+  pub lightest-on : (x y first r : ℕ) → x ≡ addedAll empty (climb ps maxClimb s) → y ≡ addedAll empty (climb ps maxClimb t)
+      → first ≡ lightestFrom (tree .weight) 0 (climbTo y ps maxClimb s) → r ≡ lightestFrom (tree .weight) first (reverse (climbTo x ps maxClimb t)) → r ≡ lightestOn tree s t
+  lightest-on x y first r ex ey ef er =
+      er ∙ rw (stops t s x (h .rooted-s) ex) (lightest-both tree s t first (ef ∙ rw (stops s t y (h .rooted-t) ey) refl))
+
 -- ---- what is found is a node
 module _ (weight : List ℕ) (k : ℕ) where
-  lighter-below : (b x : ℕ) → b < k → x < k → lighter weight b x < k
+  pub lighter-below : (b x : ℕ) → b < k → x < k → lighter weight b x < k
+  unfolding lighter
   lighter-below b x bl xl = go (eqb b 0) (ltb (at weight x) (at weight b))
     where
       go : (y z : Bool) → pick y x (pick z x b) < k

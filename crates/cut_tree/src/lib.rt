@@ -1,5 +1,5 @@
 pub mod path;
-pub use path::{reaches_root, MAX_CLIMB};
+pub use path::{query, reaches_root, MAX_CLIMB};
 
 // A cut tree: every node's parent, and the weight of the edge between them. Node 0 has parent 0 and weight 0.
 pub struct Tree {
