@@ -9,13 +9,15 @@ use native.Mathlib.Decide.{ℕ-discrete}
 use lib.Dec.{ltb, eqb}
 use borrow.Author.Tests.{eqb-true, eqb-false, eq-eqb, ne-eqb, lt-ltb, le-ltb}
 use Rattle.min_cut.specs.Word.{holds}
-use Rattle.node_set.specs.Set.{empty, added}
+use Rattle.node_set.specs.Set.{empty, added, Counted}
 use Rattle.node_set.specs.SetLaws.{holds-empty, holds-added}
 use Rattle.network.specs.Basics.{pick, at}
-use Rattle.cut_tree.specs.Path.{maxClimb, reaches, climb, among, without, path, lightest, lightestOn}
-use Rattle.cut_tree.specs.Climb.{Inside, Pair, climbTo, addedAll, lighter, lightestFrom}
-use Rattle.cut_tree.specs.ClimbLaws.{inside-lt, inside-next, among-on, climb-nonzero, climb-closed, climbTo-without}
+use Rattle.cut_tree.specs.Path.{maxClimb, reaches, climb, among, without, path, lightest, lightestOn, sideOf, answer, queryOf}
+use Rattle.cut_tree.specs.Climb.{Inside, Climbs, Pair, climbTo, addedAll, lighter, lightestFrom}
+use Rattle.cut_tree.specs.ClimbLaws.{inside-lt, inside-next, climbs-inside, among-on, climb-nonzero, climb-closed, climbTo-without}
 use Rattle.cut_tree.specs.declared.Tree.{Tree}
+use Rattle.cut_tree.specs.declared.PairAnswer.{PairAnswer}
+use Rattle.cut_tree.specs.declared.PairAnswer.the-variants.{Refused, Found}
 
 -- ---- membership in what a path is made of
 among-append : (v : ℕ) (xs ys : List ℕ) → among v (xs ++ ys) ≡ (among v xs || among v ys)
@@ -159,14 +161,14 @@ module _ (tree : Tree) (s t : ℕ) (h : Pair (tree .parent) s t) where
   ps = tree .parent
 
   -- a climb from i stops at the nodes of the climb from j
-  stops : (i j x : ℕ) → reaches ps maxClimb j ≡ true → x ≡ addedAll empty (climb ps maxClimb j) → climbTo x ps maxClimb i ≡ without (climb ps maxClimb j) (climb ps maxClimb i)
-  stops i j x r e =
-      climbTo-without ps (climb ps maxClimb j) x (λ v. rw (e, holds-addedAll empty (climb ps maxClimb j) v, holds-empty v)) (λ v m n. climb-closed ps maxClimb j v r m n) maxClimb i
+  stops : (i j z x : ℕ) → reaches ps maxClimb j ≡ true → z ≡ empty → x ≡ addedAll z (climb ps maxClimb j) → climbTo x ps maxClimb i ≡ without (climb ps maxClimb j) (climb ps maxClimb i)
+  stops i j z x r d e =
+      climbTo-without ps (climb ps maxClimb j) x (λ v. rw (e, d, holds-addedAll empty (climb ps maxClimb j) v, holds-empty v)) (λ v m n. climb-closed ps maxClimb j v r m n) maxClimb i
 
-  pub lightest-on : (x y first r : ℕ) → x ≡ addedAll empty (climb ps maxClimb s) → y ≡ addedAll empty (climb ps maxClimb t)
-      → first ≡ lightestFrom (tree .weight) 0 (climbTo y ps maxClimb s) → r ≡ lightestFrom (tree .weight) first (reverse (climbTo x ps maxClimb t)) → r ≡ lightestOn tree s t
-  lightest-on x y first r ex ey ef er =
-      er ∙ rw (stops t s x (h .rooted-s) ex) (lightest-both tree s t first (ef ∙ rw (stops s t y (h .rooted-t) ey) refl))
+  module _ (z x y first r : ℕ) (d : z ≡ empty) (ex : x ≡ addedAll z (climb ps maxClimb s)) (f : ℕ) (g : f ≡ empty) (ey : y ≡ addedAll f (climb ps maxClimb t))
+      (ef : first ≡ lightestFrom (tree .weight) 0 (climbTo y ps maxClimb s)) (er : r ≡ lightestFrom (tree .weight) first (reverse (climbTo x ps maxClimb t))) where
+    pub lightest-on : r ≡ lightestOn tree s t
+    lightest-on = er ∙ rw (stops t s z x (h .rooted-s) d ex) (lightest-both tree s t first (ef ∙ rw (stops s t f y (h .rooted-t) g ey) refl))
 
 -- ---- what is found is a node
 module _ (weight : List ℕ) (k : ℕ) where
@@ -207,3 +209,35 @@ module _ (parent : List ℕ) (stop : ℕ) where
   pub down-below : (weight : List ℕ) (left i b : ℕ) → Inside parent i → b < 64 → lightestFrom weight b (reverse (climbTo stop parent left i)) < 64
   down-below weight left i b h l =
       from-below weight 64 b (reverse (climbTo stop parent left i)) l (λ x m. climbTo-below left i h x (sym (among-reverse x (climbTo stop parent left i)) ∙ m))
+
+pub lightestOn-below : (tree : Tree) (s t : ℕ) → Pair (tree .parent) s t → lightestOn tree s t < 64
+lightestOn-below tree s t h =
+    let ps = tree .parent in
+    let ws = tree .weight in
+    let x = addedAll empty (climb ps maxClimb s) in
+    let y = addedAll empty (climb ps maxClimb t) in
+    let first = lightestFrom ws 0 (climbTo y ps maxClimb s) in
+    subst (λ v. v < 64) (lightest-on tree s t h empty x y first _ refl refl empty refl refl refl refl)
+    (down-below ps x ws maxClimb t first (h .to) (up-below ps y ws maxClimb s 0 (h .from) (omega arith)))
+
+-- ---- the answer
+module _ (tree : Tree) (n s t : ℕ) where
+  pub refused-s : n ≤ s → Refused 14 ≡ queryOf tree n s t
+  unfolding queryOf
+  refused-s l = rw (le-ltb s n l)
+
+  pub refused-t : s < n → n ≤ t → Refused 14 ≡ queryOf tree n s t
+  unfolding queryOf
+  refused-t m l = rw (lt-ltb s n m, le-ltb t n l)
+
+  pub refused-same : s < n → t < n → s ≡ t → Refused 15 ≡ queryOf tree n s t
+  unfolding queryOf
+  refused-same l m e = rw (lt-ltb s n l, lt-ltb t n m, eq-eqb s t e)
+
+  pub answered : s < n → t < n → (s ≡ t → ⊥) → (v x size : ℕ) → v ≡ lightestOn tree s t → x ≡ sideOf (tree .parent) n v s → Counted x size
+      → Found (at (tree .weight) v) v x size ≡ queryOf tree n s t
+  unfolding queryOf answer
+  answered l m d v x size ev ex es = rw (lt-ltb s n l, lt-ltb t n m, ne-eqb s t d, es .digits, ex, ev)
+
+  pub pair-climbs : Climbs n (tree .parent) → s < n → t < n → Pair (tree .parent) s t
+  pair-climbs h l m = record { from = climbs-inside h s l; to = climbs-inside h t m; rooted-s = h .rooted s l; rooted-t = h .rooted t m }

@@ -65,9 +65,22 @@ word-more i X = same-bits (suc i) (addedIf (X i) (word i X) i) (word (suc i) X) 
     go false e k l (no q) = word-holds i X k (omega arith)
 
 -- ---- the pass over the nodes
-module _ (parent : List ℕ) (n v x i : ℕ) (e : x ≡ word i (under parent v)) where
-  pub pass-known : Climbs n parent → i < n → Known parent v x i maxClimb i
-  pass-known h l = record { inside = climbs-inside h i l; rooted = h .rooted i l; short = omega arith; known = λ k kl. rw e (word-holds i (under parent v) k kl) }
+pub added-so : (a b : Bool) (x i y : ℕ) → b ≡ a → b ≡ true → y ≡ added x i → y ≡ addedIf a x i
+added-so a b x i y e f g = g ∙ rw (← e, f) refl
+
+pub added-not : (a b : Bool) (x i : ℕ) → b ≡ a → b ≡ false → x ≡ addedIf a x i
+added-not a b x i e f = rw (← e, f) refl
+
+pub pass-start : (parent : List ℕ) (v : ℕ) → 0 ≡ word 0 (under parent v)
+unfolding word
+pass-start parent v = refl
+
+pub pass-end : (parent : List ℕ) (v i n : ℕ) → i ≡ n → word i (under parent v) ≡ word n (under parent v)
+pass-end parent v i n e = rw e refl
+
+module _ (parent : List ℕ) (v x i : ℕ) (e : x ≡ word i (under parent v)) where
+  pub pass-known : (n : ℕ) → Climbs n parent → i < n → Known parent v x i maxClimb i
+  pass-known n h l = record { inside = climbs-inside h i l; rooted = h .rooted i l; short = omega arith; known = λ k kl. rw e (word-holds i (under parent v) k kl) }
 
   pub pass-next : addedIf (under parent v i) x i ≡ word (i + 1) (under parent v)
   pass-next = rw (add-one, e) (word-more i (under parent v))

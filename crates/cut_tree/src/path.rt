@@ -1,6 +1,7 @@
 // The pair query (document 01, "Pair, flow, writing"). The path is found by recursion along parents with a count that falls, and so is
 // whether every node reaches node 0.
-use super::{PairAnswer, Tree};
+use super::PairAnswer;
+use super::Tree;
 ghost use mathlib.Core.Path.{_≡_};
 ghost use Prim.Native.Nat.{ℕ, _<_, _≤_};
 ghost use mathlib.Core.List.{reverse};
@@ -58,7 +59,14 @@ fn lighter(weight: &[u32; 64], best: usize, i: usize) -> usize
 }
 
 // The first of the lightest edges on the way up from i, as far as the set `stop`; best where none is lighter.
-fn lightest_up(parent: &[u8; 64], weight: &[u32; 64], left: usize, i: usize, stop: u64, best: usize) -> usize
+fn lightest_up(
+    parent: &[u8; 64],
+    weight: &[u32; 64],
+    left: usize,
+    i: usize,
+    stop: u64,
+    best: usize,
+) -> usize
     requires { ⌜ Inside (now parent) i × (best < maxNodes) ⌝ }
     ensures { λ r. ⌜ r ≡ lightestFrom (now (weight .entry)) best (climbTo stop (now (parent .entry)) left i) ⌝ }
 {
@@ -76,7 +84,14 @@ fn lightest_up(parent: &[u8; 64], weight: &[u32; 64], left: usize, i: usize, sto
 }
 
 // The same on the way down to i: the edges above it come first.
-fn lightest_down(parent: &[u8; 64], weight: &[u32; 64], left: usize, i: usize, stop: u64, best: usize) -> usize
+fn lightest_down(
+    parent: &[u8; 64],
+    weight: &[u32; 64],
+    left: usize,
+    i: usize,
+    stop: u64,
+    best: usize,
+) -> usize
     requires { ⌜ Inside (now parent) i × (best < maxNodes) ⌝ }
     ensures { λ r. ⌜ r ≡ lightestFrom (now (weight .entry)) best (reverse (climbTo stop (now (parent .entry)) left i)) ⌝ }
 {
@@ -183,5 +198,10 @@ pub fn query(tree: Tree, n: usize, s: usize, t: usize) -> PairAnswer
     let side = side_of(&parent, n, v, s);
     let w = weight[v];
     let size = node_set::size(side);
-    PairAnswer::Found { weight: w, node: v, side: side, size: size }
+    PairAnswer::Found {
+        weight: w,
+        node: v,
+        side: side,
+        size: size,
+    }
 }

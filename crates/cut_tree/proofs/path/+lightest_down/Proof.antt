@@ -59,8 +59,7 @@ lightest-down-requires t c κs =
 lighter-requires : (t : ℕ) → lts.Need-lighter-requires (claims t) (start t) this.Post
 lighter-requires t c κs =
     let st = c .before .before .before .before .before .before in
-    let a = st .args in
-    (
+    let a = st .args in (
       omega (arith, c .lightest-down .ensures, down-below (a .parent .now) (a .stop) (a .weight .now) (a .left - 1) (getD (a .parent .now) (a .i) 0) (a .best) (inside-next (st .pre .1 .0)) (st .pre .1 .1)),
       inside-lt (st .pre .1 .0),
     )
