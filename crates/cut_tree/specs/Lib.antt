@@ -5,3 +5,16 @@ pub mod Climb
 pub mod ClimbLaws
 pub mod QueryLaws
 pub mod SideLaws
+pub mod RuleLaws
+pub mod KeepLaws
+pub mod RebuildLaws
+pub mod RuleTree
+pub mod Depth
+pub mod RuleShape
+pub mod Definition1
+pub mod PathLaws
+pub mod PairLaws
+pub mod MaxFlowMinCut
+pub mod TreeValues
+pub mod Definition1Proof
+pub mod AnswerLaws
