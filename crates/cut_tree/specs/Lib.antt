@@ -5,6 +5,7 @@ pub mod Climb
 pub mod ClimbLaws
 pub mod QueryLaws
 pub mod SideLaws
+pub mod StepLaws
 pub mod RuleLaws
 pub mod KeepLaws
 pub mod RebuildLaws

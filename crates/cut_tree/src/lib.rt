@@ -1,4 +1,5 @@
 pub mod path;
+mod rule;
 
 pub use path::MAX_CLIMB;
 pub use path::query;
