@@ -6,6 +6,8 @@ pub mod ClimbLaws
 pub mod QueryLaws
 pub mod SideLaws
 pub mod StepLaws
+pub mod Taking
+pub mod TakingLaws
 pub mod RuleLaws
 pub mod KeepLaws
 pub mod RebuildLaws

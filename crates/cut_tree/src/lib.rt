@@ -1,4 +1,5 @@
 pub mod path;
+mod rebuild;
 mod rule;
 
 pub use path::MAX_CLIMB;

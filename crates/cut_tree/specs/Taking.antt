@@ -1,0 +1,39 @@
+-- The keeping test on the numbers that the code hands about: a changed link and a recorded step, without the network and the arrays.
+use Prim.Native.Nat.{ℕ, _-_, _<_}
+use mathlib.Core.Bool.{Bool, _&&_}
+use lib.Dec.{eqb}
+use Rattle.min_cut.specs.Cut.{differ}
+use Rattle.min_cut.specs.Word.{holds}
+use Rattle.network.specs.Basics.{pick, at}
+use Rattle.network.specs.Limits.{maxNodes}
+use Rattle.network.specs.declared.Network.{Network}
+use Rattle.cut_tree.specs.Rebuild.{survives}
+use Rattle.cut_tree.specs.declared.Steps.{Steps}
+use Rattle.cut_tree.specs.declared.StepCut.{StepCut}
+use Rattle.cut_tree.specs.declared.rebuild.Change.{Change}
+use Rattle.cut_tree.specs.declared.rebuild.OldStep.{OldStep}
+
+-- link k of net goes to capacity d
+abbrev pub changeOf : Network → (k d : ℕ) → Change
+changeOf net k d = record { a = at (net .a) k; b = at (net .b) k; old = at (net .capacity) k; new = d }
+
+-- what is recorded of step s
+abbrev pub stepOf : Steps → ℕ → OldStep
+stepOf steps s = record { pivot = at (steps .pivot) s; side = at (steps .side) s; value = at (steps .value) s }
+
+-- the link's ends are nodes
+pub record OfNodes (h : Change) : Type 0 where
+  pub a : h .a < maxNodes
+  pub b : h .b < maxNodes
+
+unfoldable pub crossed : Change → OldStep → Bool
+crossed h o = differ (holds (o .side) (h .a)) (holds (o .side) (h .b))
+
+unfoldable pub survived : Change → OldStep → Bool
+survived h o = survives (crossed h o) (o .value) (h .old) (h .new)
+
+unfoldable pub keptBy : Change → OldStep → ℕ → Bool
+keptBy h o t = eqb (o .pivot) t && survived h o
+
+unfoldable pub keptCut : Change → OldStep → StepCut
+keptCut h o = record { side = o .side; value = o .value - (h .old - h .new); anew = 0 }
