@@ -1,4 +1,5 @@
--- The bits of the words that the bitwise operations give, and of 2 ^ i and 2 ^ n - 1.
+-- Sides are held as 64-bit words (document 01, "Splits and flows"): the bits of the words that the bitwise operations give, and of
+-- 2 ^ i and 2 ^ n - 1.
 use mathlib.Core.Path.{_≡_, refl, sym, ap, _∙_}
 use mathlib.Core.Bool.{Bool, true, false, _&&_, _||_}
 use Prim.Native.Nat.{ℕ, zero, suc, _*_, _-_, _/_, _%_, _^_, _≤_, _<_}

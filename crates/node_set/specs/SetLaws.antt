@@ -1,4 +1,4 @@
--- Which nodes are in the set that an operation gives, and that it stays below 2 ^ n. Two sets of nodes below n with the same nodes are
+-- Laws of the operations of Set.antt: which nodes are in the set that one gives, and that it stays below 2 ^ n. Two sets of nodes below n with the same nodes are
 -- one word (`same-bits` of min_cut's WordLaws), and one that another includes is no greater a word (`inside-le`).
 use mathlib.Core.Path.{_≡_, refl, sym, ap, _∙_}
 use mathlib.Core.Logic.{_≢_, _⊎_, inl, inr}

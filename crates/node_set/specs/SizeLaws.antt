@@ -1,4 +1,4 @@
--- How many nodes a set has, and its lowest node.
+-- "How many houses that side has" (document 01): the size of a set and its lowest node, as counts of the digits of its word.
 use mathlib.Core.Path.{_≡_, refl, sym, ap, _∙_}
 use mathlib.Core.Logic.{_≢_}
 use mathlib.Core.Bool.{Bool, true, false, true≢false}
