@@ -1,4 +1,5 @@
 // One step of Gusfield's rule (document 01, "The tree").
+use network::MAX_NODES;
 use super::{Built, StepCut, Steps, Tree};
 ghost use mathlib.Core.Path.{_≡_};
 ghost use Prim.Native.Nat.{ℕ, _<_};
@@ -10,8 +11,8 @@ ghost use Rattle.cut_tree.specs.StepLaws.{movedOne, Ready};
 pub fn unbuilt() -> Built
     ensures { λ r. ⌜ r ≡ unbuilt ⌝ }
 {
-    let tree = Tree { parent: [0; 64], weight: [0; 64] };
-    let steps = Steps { pivot: [0; 64], side: [0; 64], value: [0; 64] };
+    let tree = Tree { parent: [0; MAX_NODES], weight: [0; MAX_NODES] };
+    let steps = Steps { pivot: [0; MAX_NODES], side: [0; MAX_NODES], value: [0; MAX_NODES] };
     Built { tree: tree, steps: steps, count: 0 }
 }
 
@@ -23,7 +24,7 @@ fn moved_one(p: u8, s: u8, t: u8) -> u8
 }
 
 // Every node in x with parent t gets parent s.
-fn move_nodes(parent: [u8; 64], x: u64, s: u8, t: u8) -> [u8; 64]
+fn move_nodes(parent: [u8; MAX_NODES], x: u64, s: u8, t: u8) -> [u8; MAX_NODES]
     ensures { λ r. ⌜ r ≡ moved x s t 0 parent ⌝ }
 {
     let mut p = parent;
