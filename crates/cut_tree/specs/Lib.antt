@@ -8,6 +8,7 @@ pub mod SideLaws
 pub mod StepLaws
 pub mod Taking
 pub mod TakingLaws
+pub mod Rebuilding
 pub mod RuleLaws
 pub mod KeepLaws
 pub mod RebuildLaws

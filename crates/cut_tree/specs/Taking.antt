@@ -7,6 +7,7 @@ use Rattle.min_cut.specs.Word.{holds}
 use Rattle.network.specs.Basics.{pick, at}
 use Rattle.network.specs.Limits.{maxNodes}
 use Rattle.network.specs.declared.Network.{Network}
+use Rattle.cut_tree.specs.Rule.{leastCut}
 use Rattle.cut_tree.specs.Rebuild.{survives}
 use Rattle.cut_tree.specs.declared.Steps.{Steps}
 use Rattle.cut_tree.specs.declared.StepCut.{StepCut}
@@ -37,3 +38,7 @@ keptBy h o t = eqb (o .pivot) t && survived h o
 
 unfoldable pub keptCut : Change → OldStep → StepCut
 keptCut h o = record { side = o .side; value = o .value - (h .old - h .new); anew = 0 }
+
+-- the recorded cut where it is kept, else the least minimum cut
+unfoldable pub taken : Network → Change → OldStep → (s t : ℕ) → StepCut
+taken net h o s t = pick (keptBy h o t) (keptCut h o) (leastCut net s t)
