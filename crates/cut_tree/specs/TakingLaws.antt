@@ -9,7 +9,11 @@ use borrow.Author.Tests.{leb-true, eq-eqb, ne-eqb, lt-ltb, le-ltb}
 use Rattle.min_cut.specs.Cut.{differ}
 use Rattle.min_cut.specs.Word.{holds}
 use Rattle.network.specs.BasicsLaws.{and-r}
-use Rattle.cut_tree.specs.Taking.{crossed, survived, keptBy, keptCut}
+use Rattle.network.specs.declared.Network.{Network}
+use Rattle.max_flow.specs.LeastCut.{leastCutOf}
+use Rattle.max_flow.specs.declared.Cut.{Cut}
+use Rattle.cut_tree.specs.Rule.{leastCut}
+use Rattle.cut_tree.specs.Taking.{crossed, survived, keptBy, keptCut, taken}
 use Rattle.cut_tree.specs.declared.StepCut.{StepCut}
 use Rattle.cut_tree.specs.declared.rebuild.Change.{Change}
 use Rattle.cut_tree.specs.declared.rebuild.OldStep.{OldStep}
@@ -75,3 +79,13 @@ module _ (h : Change) (o : OldStep) where
   pub kept-less : record { side = o .side; value = o .value - (h .old - h .new); anew = 0 } ≡ keptCut h o
   unfolding keptCut
   kept-less = refl
+
+-- ---- a cut kept, or worked out
+module _ (net : Network) (h : Change) (o : OldStep) (s t : ℕ) (b : Bool) (e : b ≡ keptBy h o t) where
+  pub took-kept : b ≡ true → (x : StepCut) → x ≡ keptCut h o → x ≡ taken net h o s t
+  unfolding taken
+  took-kept q x f = f ∙ rw (← e, q) refl
+
+  pub took-anew : b ≡ false → (c : Cut) → c ≡ leastCutOf net s t → record { side = c .side; value = c .value; anew = 1 } ≡ taken net h o s t
+  unfolding taken leastCutOf leastCut
+  took-anew q c f = rw (f, ← e, q) refl
