@@ -16,9 +16,10 @@ pub mod RuleTree
 pub mod Depth
 pub mod RuleShape
 pub mod Definition1
+pub mod MemberLaws
 pub mod PathLaws
 pub mod PairLaws
-pub mod MaxFlowMinCut
 pub mod TreeValues
 pub mod Definition1Proof
 pub mod AnswerLaws
+pub mod Examples
