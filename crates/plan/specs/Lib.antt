@@ -2,4 +2,11 @@ pub mod Plan
 pub mod Text
 pub mod Calls
 pub mod Machine
+pub mod Run
 pub mod History
+pub mod StackLaws
+pub mod MachineLaws
+pub mod Layers
+pub mod HistoryLaws
+pub mod Standing
+pub mod HistoryProof
