@@ -10,3 +10,7 @@ pub mod Layers
 pub mod HistoryLaws
 pub mod Standing
 pub mod HistoryProof
+pub mod ResortA
+pub mod Readings
+pub mod TextExamples
+pub mod SoundExamples
