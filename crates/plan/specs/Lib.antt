@@ -14,3 +14,5 @@ pub mod ResortA
 pub mod Readings
 pub mod TextExamples
 pub mod SoundExamples
+pub mod ChecksLaws
+pub mod Numbers

@@ -100,19 +100,19 @@ exchanging = 0x03 ∷ 0x02 ∷ 0x01 ∷ 0x02 ∷ 0x04 ∷ 0x02 ∷ 0x00 ∷ 0x01
 
 unfoldable pub table : List Reading
 table =
-    parents resortA [] (0 ∷ 0 ∷ 2 ∷ []) ∷ weights resortA [] (8 ∷ 6 ∷ 6 ∷ []) -- P1
-    ∷ sides resortA [] (2 ∷ 12 ∷ 8 ∷ []) -- P2
-    ∷ weights resortA (to 1 1 ∷ []) (6 ∷ 4 ∷ 6 ∷ []) ∷ notKept resortA (to 1 1 ∷ []) 1 -- P3
-    ∷ parents resortA (to 3 4 ∷ []) (0 ∷ 0 ∷ 0 ∷ []) ∷ weights resortA (to 3 4 ∷ []) (8 ∷ 8 ∷ 8 ∷ []) ∷ notKept resortA (to 3 4 ∷ []) 2 -- P4
-    ∷ parents resortA (to 3 4 ∷ back ∷ []) (0 ∷ 0 ∷ 2 ∷ []) ∷ weights resortA (to 3 4 ∷ back ∷ []) (8 ∷ 6 ∷ 6 ∷ []) -- P5
-    ∷ notKept resortA (to 3 4 ∷ back ∷ []) 3 -- P5
-    ∷ pair resortA 3 1 6 3 8 1 -- P6
-    ∷ reads (negsuc 4) (45 ∷ 48 ∷ 46 ∷ 53 ∷ []) ∷ reads (negsuc 9) (45 ∷ 49 ∷ 46 ∷ 48 ∷ []) ∷ reads (pos 0) (48 ∷ 46 ∷ 48 ∷ []) -- P7
-    ∷ refused [] 1 0 -- P8
-    ∷ refused (0x80 ∷ 0x80 ∷ 0x80 ∷ []) 2 0 -- P9
-    ∷ refused (0x02 ∷ 0x01 ∷ 0x00 ∷ 0x01 ∷ 0x80 ∷ 0x00 ∷ []) 3 4 -- P10
-    ∷ refused (0x02 ∷ 0x01 ∷ 0x00 ∷ 0x00 ∷ 0x00 ∷ []) 7 3 -- P11
-    ∷ refused (0x01 ∷ 0x00 ∷ 0x00 ∷ []) 9 2 -- P12
+    parents resortA [] (0 ∷ 0 ∷ 2 ∷ []) ∷ weights resortA [] (8 ∷ 6 ∷ 6 ∷ [])  -- P1
+    ∷ sides resortA [] (2 ∷ 12 ∷ 8 ∷ [])  -- P2
+    ∷ weights resortA (to 1 1 ∷ []) (6 ∷ 4 ∷ 6 ∷ []) ∷ notKept resortA (to 1 1 ∷ []) 1  -- P3
+    ∷ parents resortA (to 3 4 ∷ []) (0 ∷ 0 ∷ 0 ∷ []) ∷ weights resortA (to 3 4 ∷ []) (8 ∷ 8 ∷ 8 ∷ []) ∷ notKept resortA (to 3 4 ∷ []) 2  -- P4
+    ∷ parents resortA (to 3 4 ∷ back ∷ []) (0 ∷ 0 ∷ 2 ∷ []) ∷ weights resortA (to 3 4 ∷ back ∷ []) (8 ∷ 6 ∷ 6 ∷ [])  -- P5
+    ∷ notKept resortA (to 3 4 ∷ back ∷ []) 3  -- P5
+    ∷ pair resortA 3 1 6 3 8 1  -- P6
+    ∷ reads (negsuc 4) (45 ∷ 48 ∷ 46 ∷ 53 ∷ []) ∷ reads (negsuc 9) (45 ∷ 49 ∷ 46 ∷ 48 ∷ []) ∷ reads (pos 0) (48 ∷ 46 ∷ 48 ∷ [])  -- P7
+    ∷ refused [] 1 0  -- P8
+    ∷ refused (0x80 ∷ 0x80 ∷ 0x80 ∷ []) 2 0  -- P9
+    ∷ refused (0x02 ∷ 0x01 ∷ 0x00 ∷ 0x01 ∷ 0x80 ∷ 0x00 ∷ []) 3 4  -- P10
+    ∷ refused (0x02 ∷ 0x01 ∷ 0x00 ∷ 0x00 ∷ 0x00 ∷ []) 7 3  -- P11
+    ∷ refused (0x01 ∷ 0x00 ∷ 0x00 ∷ []) 9 2  -- P12
     -- not the paper's
     ∷ parents exchanging [] (2 ∷ 0 ∷ []) ∷ weights exchanging [] (4 ∷ 1 ∷ [])
     ∷ []
