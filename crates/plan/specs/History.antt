@@ -125,6 +125,12 @@ pub record Opens (file : List ℕ) (p : Plan) : Type 0 where
   pub steps : openOf file .plan .steps ≡ p .steps
   pub stack : openOf file .plan .stack ≡ noStack
 
+-- the file that q's writing puts into any buffer that is long enough opens so
+abbrev pub Reopens : Plan → Type 0
+Reopens q =
+    (buffer : List ℕ) → length (fileOf (q .network)) ≤ length buffer
+    → (writeOf q (length buffer) .number ≡ 0) × Opens (take (writeOf q (length buffer) .length) (writtenTo q buffer)) q
+
 -- ---- the claim. p: the plan of the opening; q: the plan that the list leaves; x: the machine after the list
 pub record Claims (p q : Plan) (x : State) (es : List Event) : Type 0 where
   -- the plan that is left: ends, capacities, stack, tree, steps, soundness
@@ -136,9 +142,8 @@ pub record Claims (p q : Plan) (x : State) (es : List Event) : Type 0 where
   pub never-19 : among 19 (numbersOf es) ≡ false
   -- the replies along the list, each by the machine's capacities at its call
   pub replies : Replies (p .network) (begin (p .network)) p es
-  -- the file then written, into any buffer that is long enough, opens to an equal plan
-  pub reopened : (buffer : List ℕ) → length (fileOf (q .network)) ≤ length buffer
-      → (writeOf q (length buffer) .number ≡ 0) × Opens (take (writeOf q (length buffer) .length) (writtenTo q buffer)) q
+  -- opening the file then written gives a fresh plan that is equal but for the stack
+  pub reopened : Reopens q
   -- of every two nodes the pair call's reply is a minimum cut
   pub pairs : (s t : ℕ) → s < q .network .nodes → t < q .network .nodes → s ≢ t → RightPair (q .network) s t (pairOf q s t)
   -- and a flow call with one place for each link is accepted, and its total is the pair's weight

@@ -26,7 +26,7 @@ use Rattle.plan.specs.Plan.{noStack}
 use Rattle.plan.specs.Calls.{fresh, opened, openOf, pairNumber, pairOf, writeNumber, writeOf, writtenTo}
 use Rattle.plan.specs.Machine.{flow, State, begin, refusal, next, state, numbers, padded, networkAt, stackOf}
 use Rattle.plan.specs.Run.{FlowReply, Event, numberIn, callsOf, numbersOf, Promised, planAfter, Run, left}
-use Rattle.plan.specs.History.{RightPair, RightFlow, AtCall, Replies, Opens, Claims, Demand3}
+use Rattle.plan.specs.History.{RightPair, RightFlow, AtCall, Replies, Opens, Reopens, Claims, Demand3}
 use Rattle.plan.specs.MachineLaws.{never}
 use Rattle.plan.specs.Layers.{Layers, planAt, Good, sound-at}
 use Rattle.plan.specs.HistoryLaws.{agrees-at, Stepped, pair-right, flow-step, step}
@@ -91,8 +91,7 @@ module _ (L : Layers) (net : Network) where
           stack = ap (λ (v : Opening). v .plan .stack) o;
         }
 
-    reopened-at : (buffer : List ℕ) → length (fileOf (networkAt net (x .capacity))) ≤ length buffer
-        → (writeOf (planAt net x) (length buffer) .number ≡ 0) × Opens (take (writeOf (planAt net x) (length buffer) .length) (writtenTo (planAt net x) buffer)) (planAt net x)
+    reopened-at : Reopens (planAt net x)
     unfolding writeOf writtenTo writeNumber
     reopened-at buffer l =
         let file = fileOf (networkAt net (x .capacity)) in

@@ -16,3 +16,5 @@ pub mod TextExamples
 pub mod SoundExamples
 pub mod ChecksLaws
 pub mod Numbers
+pub mod FlowA
+pub mod WrongPrograms
