@@ -18,3 +18,4 @@ pub mod ChecksLaws
 pub mod Numbers
 pub mod FlowA
 pub mod WrongPrograms
+pub mod Sample
