@@ -5,3 +5,4 @@ pub mod Checks
 pub mod Network
 pub mod NetworkLaws
 pub mod Incidence
+pub mod IncidenceLaws

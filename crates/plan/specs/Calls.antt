@@ -24,7 +24,7 @@ use Rattle.cut_tree.specs.declared.Built.{Built}
 use Rattle.cut_tree.specs.declared.PairAnswer.{PairAnswer}
 use Rattle.cut_tree.specs.declared.PairAnswer.the-variants.{Refused, Found}
 use Rattle.plan.specs.Plan.{maxDepth, sound, push, pop, noStack, noPlan}
-use Rattle.plan.specs.Text.{textWidth, textOf}
+use Rattle.text.specs.Text.{textWidth, textOf}
 use Rattle.plan.specs.declared.Stack.{Stack}
 use Rattle.plan.specs.declared.Plan.{Plan}
 use Rattle.plan.specs.declared.Opening.{Opening}

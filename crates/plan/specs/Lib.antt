@@ -1,5 +1,4 @@
 pub mod Plan
-pub mod Text
 pub mod Calls
 pub mod Machine
 pub mod Run

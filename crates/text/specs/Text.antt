@@ -1,5 +1,5 @@
--- "Headroom": its text. Twelve bytes, right-aligned with spaces: a minus only below zero, the whole megabits without leading zeros, a point,
--- one digit of tenths.
+-- Text of document 01: decimal numbers, and "Headroom": twelve bytes, right-aligned with spaces: a minus only below zero, the whole megabits
+-- without leading zeros, a point, one digit of tenths.
 use Prim.Native.Nat.{ℕ, zero, suc, _+_, _-_, _/_, _%_}
 use mathlib.Core.List.{List, [], _∷_, _++_}
 use lib.ListN.{length, replicate}
@@ -11,6 +11,10 @@ use Rattle.network.specs.Basics.{pick}
 unfoldable pub digits : ℕ → ℕ → List ℕ
 digits zero n = []
 digits (suc left) n = let front = digits left (n / 10) in pick (ltb n 10) ((48 + n) ∷ []) (front ++ ((48 + n % 10) ∷ []))
+
+-- a number in decimal; 20 digits hold every number of 64 bits
+abbrev pub decimal : ℕ → List ℕ
+decimal n = digits 20 n
 
 -- spaces, so that the bytes end at place w
 abbrev pub rightAligned : ℕ → List ℕ → List ℕ
@@ -26,4 +30,4 @@ textWidth = 12
 
 -- a number of tenths
 unfoldable pub textOf : ℤ → List ℕ
-textOf z = rightAligned textWidth (signOf z ++ (digits 10 (natAbs z / 10) ++ (46 ∷ (48 + natAbs z % 10) ∷ [])))
+textOf z = rightAligned textWidth (signOf z ++ (decimal (natAbs z / 10) ++ (46 ∷ (48 + natAbs z % 10) ∷ [])))

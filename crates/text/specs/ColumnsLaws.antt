@@ -1,0 +1,135 @@
+-- Laws of signed numbers of 32 bits, and of filling the text from the right.
+use mathlib.Core.Path.{_≡_, refl, sym, ap, ap₂, _∙_, subst}
+use mathlib.Core.Bool.{Bool, true, false, cond}
+use mathlib.Core.List.{List, [], _∷_, _++_, append-assoc}
+use Prim.Native.Nat.{ℕ, zero, suc, _+_, _-_, _*_, _/_, _%_, _^_, _≤_, _<_, zero-le}
+use native.Mathlib.Omega.{arith}
+use native.Mathlib.Nat.{le-refl}
+use lib.Dec.{T, ltb, leb·suc-zero}
+use borrow.Author.Tests.{ltb-true, ltb-false}
+use lib.IntN.{ℤ, pos, negsuc, _+ℤ_, _-ℤ_, negℤ, natAbs, subℕ, +ℤ-idl}
+use lib.Signed.{mag, ltZ, nonNeg}
+use lib.ListN.{length, drop, set, length-set}
+use lib.Seq.{drop-cons, getD-set-same, drop-set-lt}
+use mir.Syntax.{w32}
+use mir.Val.{SFits, Fits, toZ, ofZ}
+use mir.Facts.{toZ-ofZ, toZ-pos}
+use Rattle.text.specs.Columns.{isNegative, markOf, owes, leading, tenthsFrom}
+
+-- ---- a difference of two numbers below 2 ^ 31
+cond-mag : (t : Bool) (p q m : ℕ) → p < m → q < m → mag (cond t (negsuc p) (pos q)) < m
+cond-mag true p q m h k = h
+cond-mag false p q m h k = k
+
+sub-mag : (a b m : ℕ) → a < m → b < m → mag (pos a -ℤ pos b) < m
+sub-mag a zero m h k = omega arith
+sub-mag a (suc b) m h k = cond-mag (ltb a (suc b)) (suc b - suc a) (a - suc b) m (omega arith) (omega arith)
+
+pub diff-fits : (a b : ℕ) → a < 2 ^ 31 → b < 2 ^ 31 → SFits w32 (toZ w32 a -ℤ toZ w32 b)
+diff-fits a b h k = rw (toZ-pos w32 h, toZ-pos w32 k) (record { sfits = sub-mag a b (2 ^ 31) h k })
+
+pub diff-is : (a b : ℕ) → a < 2 ^ 31 → b < 2 ^ 31 → toZ w32 (ofZ w32 (toZ w32 a -ℤ toZ w32 b)) ≡ pos a -ℤ pos b
+diff-is a b h k = toZ-ofZ (diff-fits a b h k) ∙ ap₂ _-ℤ_ (toZ-pos w32 h) (toZ-pos w32 k)
+
+-- ---- signs
+pub neg-mag : (z : ℤ) → mag (negℤ z) ≤ natAbs z
+neg-mag (pos zero) = zero-le
+neg-mag (pos (suc n)) = omega arith
+neg-mag (negsuc n) = omega arith
+
+pub neg-abs : (z : ℤ) → natAbs (negℤ z) ≡ natAbs z
+neg-abs (pos zero) = refl
+neg-abs (pos (suc n)) = refl
+neg-abs (negsuc n) = refl
+
+pub neg-isNegative : (z : ℤ) → isNegative z ≡ true → isNegative (negℤ z) ≡ false
+neg-isNegative (pos zero) e = refl
+neg-isNegative (pos (suc n)) e = sym e
+neg-isNegative (negsuc n) e = refl
+
+pub neg-fits : (z : ℤ) → SFits w32 z → natAbs z < 2 ^ 31 → SFits w32 (pos 0 -ℤ toZ w32 (ofZ w32 z))
+neg-fits z f h = rw (toZ-ofZ f, +ℤ-idl (negℤ z)) (record { sfits = omega (arith, neg-mag z) })
+
+pub neg-is : (z : ℤ) → SFits w32 z → natAbs z < 2 ^ 31 → toZ w32 (ofZ w32 (pos 0 -ℤ toZ w32 (ofZ w32 z))) ≡ negℤ z
+neg-is z f h = toZ-ofZ (neg-fits z f h) ∙ ap (λ (v : ℤ). pos 0 -ℤ v) (toZ-ofZ f) ∙ +ℤ-idl (negℤ z)
+
+lt-isNegative : (z : ℤ) → ltZ z (pos 0) ≡ isNegative z
+lt-isNegative (pos n) = leb·suc-zero n
+lt-isNegative (negsuc n) = refl
+
+pub below-zero : (z : ℤ) → SFits w32 z → ltZ (toZ w32 (ofZ w32 z)) (pos 0) ≡ isNegative z
+below-zero z f = ap (λ (v : ℤ). ltZ v (pos 0)) (toZ-ofZ f) ∙ lt-isNegative z
+
+plain-fits : (z : ℤ) → mag z < 2 ^ 31 → isNegative z ≡ false → T (nonNeg z) × Fits w32 (natAbs z)
+plain-fits (pos n) f e = (tt, record { fits = omega arith })
+plain-fits (negsuc n) f e = absurd (subst (λ (b : Bool). T b) e tt)
+
+pub plain-cast : (z : ℤ) → SFits w32 z → isNegative z ≡ false → T (nonNeg (toZ w32 (ofZ w32 z))) × Fits w32 (natAbs (toZ w32 (ofZ w32 z)))
+plain-cast z f e = rw (toZ-ofZ f) (plain-fits z (f .sfits) e)
+
+-- ---- the text
+pub mark-digit : (w : ℕ) (o : Bool) → (w ≡ 0 → ⊥) → 48 + w % 10 ≡ markOf w o
+unfolding markOf
+mark-digit zero o h = absurd (h refl)
+mark-digit (suc w) o h = refl
+
+pub owes-digit : (w : ℕ) (o : Bool) → (w ≡ 0 → ⊥) → o ≡ owes w o
+owes-digit zero o h = absurd (h refl)
+owes-digit (suc w) o h = refl
+
+drop-set-here : (l : List ℕ) (j v : ℕ) → j < length l → drop j (set l j v) ≡ v ∷ drop (suc j) l
+drop-set-here l j v h =
+    let h' : j < length (set l j v) = simp length-set h in
+    drop-cons (set l j v) j 0 h' ∙ ap₂ (λ (a : ℕ) (t : List ℕ). a ∷ t) (getD-set-same l j v 0 h) (drop-set-lt (suc j) l j v (le-refl (suc j)))
+
+lead-more : (j w : ℕ) (o : Bool) (t : List ℕ) → leading j (w / 10) (owes w o) ++ (markOf w o ∷ t) ≡ leading (suc j) w o ++ t
+unfolding leading
+lead-more j w o t = sym (append-assoc (leading j (w / 10) (owes w o)) (markOf w o ∷ []) t)
+
+-- one turn: the byte at k - 1 is written
+pub turn : (out : List ℕ) (k w : ℕ) (o : Bool) → 0 < k → k ≤ length out
+    → leading (k - 1) (w / 10) (owes w o) ++ drop (k - 1) (set out (k - 1) (markOf w o)) ≡ leading k w o ++ drop k out
+turn out k w o p h =
+    let e : suc (k - 1) ≡ k = omega arith in
+    ap (λ (t : List ℕ). leading (k - 1) (w / 10) (owes w o) ++ t) (drop-set-here out (k - 1) (markOf w o) (omega arith))
+    ∙ lead-more (k - 1) w o (drop (suc (k - 1)) out) ∙ ap (λ (n : ℕ). leading n w o ++ drop n out) e
+
+pub lead-none : (w : ℕ) (o : Bool) (t : List ℕ) → leading 0 w o ++ t ≡ t
+unfolding leading
+lead-none w o t = refl
+
+cond-abs : (t : Bool) (p q m : ℕ) → suc p < m → q < m → natAbs (cond t (negsuc p) (pos q)) < m
+cond-abs true p q m h k = h
+cond-abs false p q m h k = k
+
+pub diff-abs : (a b m : ℕ) → a < m → b < m → natAbs (pos a -ℤ pos b) < m
+diff-abs a zero m h k = omega arith
+diff-abs a (suc b) m h k = cond-abs (ltb a (suc b)) (suc b - suc a) (a - suc b) m (omega arith) (omega arith)
+
+-- ---- the complement of a negative number's bits
+pub not-is : (z : ℤ) → SFits w32 z → isNegative z ≡ true → toZ w32 (4294967295 - ofZ w32 z) ≡ pos (mag z)
+not-is (pos n) f e = absurd (subst (λ (b : Bool). T b) (sym e) tt)
+not-is (negsuc n) f e =
+    let h : n < 2 ^ 31 = f .sfits in
+    let q : 4294967295 - (2 ^ 32 - suc n) ≡ n = omega arith in ap (toZ w32) q ∙ toZ-pos w32 h
+
+pub mag-abs : (z : ℤ) → isNegative z ≡ true → mag z + 1 ≡ natAbs z
+mag-abs (pos n) e = absurd (subst (λ (b : Bool). T b) (sym e) tt)
+mag-abs (negsuc n) e = omega arith
+
+-- ---- the sign and the magnitude of a difference
+cond-neg : (t : Bool) (p q : ℕ) → isNegative (cond t (negsuc p) (pos q)) ≡ t
+cond-neg true p q = refl
+cond-neg false p q = refl
+
+pub diff-neg : (a b : ℕ) → isNegative (pos a -ℤ pos b) ≡ ltb a b
+diff-neg a zero = sym (leb·suc-zero a)
+diff-neg a (suc b) = cond-neg (ltb a (suc b)) (suc b - suc a) (a - suc b)
+
+diff-at : (a b : ℕ) (t : Bool) → ltb a (suc b) ≡ t → natAbs (cond t (negsuc (suc b - suc a)) (pos (a - suc b))) ≡ (a - suc b) + (suc b - a)
+diff-at a b true e = omega (arith, ltb-true a (suc b) e)
+diff-at a b false e = omega (arith, ltb-false a (suc b) e)
+
+pub diff-size : (a b : ℕ) → natAbs (pos a -ℤ pos b) ≡ (a - b) + (b - a)
+diff-size a zero = omega arith
+diff-size a (suc b) = diff-at a b (ltb a (suc b)) refl

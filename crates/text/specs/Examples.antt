@@ -1,0 +1,45 @@
+-- Worked examples: texts of document 01, and the ends of the range.
+use mathlib.Core.Path.{_≡_, refl}
+use mathlib.Core.List.{List, [], _∷_}
+use Prim.Native.Nat.{ℕ}
+use lib.IntN.{ℤ, pos, negsuc}
+use Rattle.text.specs.Text.{digits, decimal, textOf}
+
+-- half a megabit short: "-0.5"
+minus-half : textOf (negsuc 4) ≡ 32 ∷ 32 ∷ 32 ∷ 32 ∷ 32 ∷ 32 ∷ 32 ∷ 32 ∷ 45 ∷ 48 ∷ 46 ∷ 53 ∷ []
+unfolding textOf digits
+minus-half = refl
+
+-- "-1.0"
+minus-one : textOf (negsuc 9) ≡ 32 ∷ 32 ∷ 32 ∷ 32 ∷ 32 ∷ 32 ∷ 32 ∷ 32 ∷ 45 ∷ 49 ∷ 46 ∷ 48 ∷ []
+unfolding textOf digits
+minus-one = refl
+
+-- "0.0"
+nothing : textOf (pos 0) ≡ 32 ∷ 32 ∷ 32 ∷ 32 ∷ 32 ∷ 32 ∷ 32 ∷ 32 ∷ 32 ∷ 48 ∷ 46 ∷ 48 ∷ []
+unfolding textOf digits
+nothing = refl
+
+-- "10.7": the tenth stands behind the point
+ten : textOf (pos 107) ≡ 32 ∷ 32 ∷ 32 ∷ 32 ∷ 32 ∷ 32 ∷ 32 ∷ 32 ∷ 49 ∷ 48 ∷ 46 ∷ 55 ∷ []
+unfolding textOf digits
+ten = refl
+
+-- the lowest headroom, "-100000000.0", fills all twelve places
+lowest : textOf (negsuc 999999999) ≡ 45 ∷ 49 ∷ 48 ∷ 48 ∷ 48 ∷ 48 ∷ 48 ∷ 48 ∷ 48 ∷ 48 ∷ 46 ∷ 48 ∷ []
+unfolding textOf digits
+lowest = refl
+
+-- the highest, "25600000.0"
+highest : textOf (pos 256000000) ≡ 32 ∷ 32 ∷ 50 ∷ 53 ∷ 54 ∷ 48 ∷ 48 ∷ 48 ∷ 48 ∷ 48 ∷ 46 ∷ 48 ∷ []
+unfolding textOf digits
+highest = refl
+
+decimal-zero : decimal 0 ≡ 48 ∷ []
+unfolding digits
+decimal-zero = refl
+
+-- the largest word, 18446744073709551615, has all 20 digits
+decimal-word : decimal 18446744073709551615 ≡ 49 ∷ 56 ∷ 52 ∷ 52 ∷ 54 ∷ 55 ∷ 52 ∷ 52 ∷ 48 ∷ 55 ∷ 51 ∷ 55 ∷ 48 ∷ 57 ∷ 53 ∷ 53 ∷ 49 ∷ 54 ∷ 49 ∷ 53 ∷ []
+unfolding digits
+decimal-word = refl

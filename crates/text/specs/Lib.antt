@@ -1,0 +1,5 @@
+pub mod Text
+pub mod Columns
+pub mod ColumnsLaws
+pub mod TextLaws
+pub mod Examples
