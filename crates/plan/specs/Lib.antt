@@ -11,7 +11,6 @@ pub mod Standing
 pub mod HistoryProof
 pub mod ResortA
 pub mod Readings
-pub mod TextExamples
 pub mod SoundExamples
 pub mod ChecksLaws
 pub mod Numbers

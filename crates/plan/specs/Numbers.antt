@@ -20,7 +20,7 @@ use Rattle.cut_tree.specs.Path.{answer, numberOf}
 use Rattle.cut_tree.specs.declared.PairAnswer.{PairAnswer}
 use Rattle.cut_tree.specs.declared.PairAnswer.the-variants.{Refused, Found}
 use Rattle.plan.specs.Plan.{maxDepth, sound, noPlan}
-use Rattle.plan.specs.Text.{textWidth}
+use Rattle.text.specs.Text.{textWidth}
 use Rattle.plan.specs.Calls.{maxDemand, fresh, opened, openOf, changeRows, undoRows, changeNumber, undoNumber, altered, unaltered, changed, undone, changeOf, undoOf, nodeRows, pairNumber, pairOf, flowRows, flowNumber, Flowed, headroomRows, headroomNumber, headroomOf, writeRows, writeNumber, writeOf, writtenTo}
 use Rattle.plan.specs.ChecksLaws.{absent, single, under, _and_, at-last, holding, failing, above, not-above, below, not-below, equal, not-equal, unequal, not-unequal, both-below, one-not-below}
 use Rattle.plan.specs.declared.Plan.{Plan}

@@ -20,7 +20,7 @@ use Rattle.cut_tree.specs.Path.{reaches, climb, among, without, path, lightest,
 use Rattle.cut_tree.specs.declared.PairAnswer.{PairAnswer}
 use Rattle.cut_tree.specs.declared.PairAnswer.the-variants.{Refused, Found}
 use Rattle.plan.specs.Plan.{treeFits, stepsFit, stackFits, sound}
-use Rattle.plan.specs.Text.{digits, textWidth, rightAligned, textOf}
+use Rattle.text.specs.Text.{digits, textWidth, rightAligned, textOf}
 use Rattle.plan.specs.Calls.{openOf, changeNumber, undoNumber, altered, changeOf, undoOf, pairNumber, pairOf}
 use Rattle.plan.specs.ResortA.{resortA}
 use Rattle.plan.specs.declared.Plan.{Plan}
