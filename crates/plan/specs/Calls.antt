@@ -1,5 +1,5 @@
 -- The calls of document 01 as functions on records, their refusals in the order of its table.
-use Prim.Native.Nat.{ℕ, zero, suc, _+_, _-_}
+use Prim.Native.Nat.{ℕ, _-_}
 use mathlib.Core.Path.{_≡_}
 use mathlib.Core.Logic.{_≢_}
 use mathlib.Core.Bool.{not}
@@ -19,10 +19,8 @@ use Rattle.network_file.specs.declared.Reading.{Reading}
 use Rattle.cut_tree.specs.Rule.{rule}
 use Rattle.cut_tree.specs.Rebuild.{rebuilt}
 use Rattle.cut_tree.specs.Path.{pairRows, answer, weightOf}
-use Rattle.cut_tree.specs.declared.Tree.{Tree}
-use Rattle.cut_tree.specs.declared.Built.{Built}
 use Rattle.cut_tree.specs.declared.PairAnswer.{PairAnswer}
-use Rattle.cut_tree.specs.declared.PairAnswer.the-variants.{Refused, Found}
+use Rattle.cut_tree.specs.declared.PairAnswer.the-variants.{Refused}
 use Rattle.plan.specs.Plan.{maxDepth, sound, push, pop, noStack, noPlan}
 use Rattle.text.specs.Text.{textWidth, textOf}
 use Rattle.plan.specs.declared.Stack.{Stack}

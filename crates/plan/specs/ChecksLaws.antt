@@ -1,6 +1,6 @@
 -- "Each is given under its condition and no other": for any rows of checks, a number is given exactly where its own row's condition holds
 -- and those of the rows before it fail.
-use Prim.Native.Nat.{ℕ, zero, suc, _≤_, _<_}
+use Prim.Native.Nat.{ℕ, _≤_, _<_}
 use mathlib.Core.Path.{_≡_, refl, sym, ap, _∙_}
 use mathlib.Core.Logic.{_≢_, _↔_}
 use mathlib.Core.Bool.{Bool, true, false, not, _&&_, true≢false}

@@ -1,5 +1,5 @@
 -- A lawful flow in resort A, of total 8 from node 0 to node 1: what a flow call on its plan may reply.
-use Prim.Native.Nat.{ℕ, zero, suc, _≤_, _<_}
+use Prim.Native.Nat.{ℕ, zero, suc}
 use mathlib.Core.Path.{_≡_, refl}
 use mathlib.Core.Bool.{Bool, true, false, _||_}
 use mathlib.Core.List.{List, [], _∷_}
@@ -11,7 +11,7 @@ use borrow.Author.Tests.{leb-true, ne-eqb}
 use Rattle.min_cut.specs.Sum.{sum}
 use Rattle.min_cut.specs.Cut.{cutValue}
 use Rattle.min_cut.specs.Word.{holds, first, leastMinCut}
-use Rattle.min_cut.specs.Lawful.{outflow, Lawful, total}
+use Rattle.min_cut.specs.Lawful.{outflow, total}
 use Rattle.network.specs.Basics.{at, all}
 use Rattle.network.specs.BasicsLaws.{all-at}
 use Rattle.network.specs.Network.{graph, minCutValue, flowAt, LawfulFlow, totalOf}

@@ -1,5 +1,5 @@
 -- Demand 3: what is claimed of every list of change, undo, pair and flow calls from an accepted opening. One claim, about the whole list.
-use Prim.Native.Nat.{ℕ, zero, suc, _-_, _≤_, _<_}
+use Prim.Native.Nat.{ℕ, _-_, _≤_, _<_}
 use mathlib.Core.Path.{_≡_}
 use mathlib.Core.Logic.{_≢_}
 use mathlib.Core.Bool.{Bool, true, false}
@@ -16,17 +16,13 @@ use Rattle.network_file.specs.Writing.{fileOf}
 use Rattle.cut_tree.specs.Rule.{rule}
 use Rattle.cut_tree.specs.Rebuild.{notKept}
 use Rattle.cut_tree.specs.Path.{among, answer, numberOf, weightOf, sideIn}
-use Rattle.cut_tree.specs.declared.Built.{Built}
 use Rattle.cut_tree.specs.declared.PairAnswer.{PairAnswer}
-use Rattle.cut_tree.specs.declared.PairAnswer.the-variants.{Refused, Found}
+use Rattle.cut_tree.specs.declared.PairAnswer.the-variants.{Refused}
 use Rattle.plan.specs.Plan.{sound, noStack}
 use Rattle.plan.specs.Calls.{openOf, pairOf, writeOf, writtenTo}
 use Rattle.plan.specs.Machine.{Call, change, undo, pair, flow, Entry, State, begin, next, state, numbers, refusal, networkAt, stackOf}
 use Rattle.plan.specs.Run.{FlowReply, Reply, Event, numberIn, callsOf, numbersOf, Promised, planAfter, left}
 use Rattle.plan.specs.declared.Plan.{Plan}
-use Rattle.plan.specs.declared.Opening.{Opening}
-use Rattle.plan.specs.declared.Changed.{Changed}
-use Rattle.plan.specs.declared.Written.{Written}
 
 -- ---- a plan, and the machine beside it
 -- q is what the opened network and the machine's state make it

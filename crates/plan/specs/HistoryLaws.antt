@@ -1,7 +1,7 @@
 -- One call, given the plan of the machine's state: its reply is as demand 3 says, and the plan after it is that of the next state.
 use mathlib.Core.Path.{_≡_, refl, sym, ap, _∙_}
 use mathlib.Core.Logic.{_≢_}
-use mathlib.Core.Bool.{true, not}
+use mathlib.Core.Bool.{not}
 use mathlib.Core.List.{List, [], _∷_}
 use Prim.Native.Nat.{ℕ, zero, suc, _-_, _≤_, _<_}
 use native.Mathlib.Omega.{arith}
@@ -13,24 +13,22 @@ use Rattle.network.specs.Basics.{at}
 use Rattle.network.specs.BasicsLaws.{shown, head, rest}
 use Rattle.network.specs.Checks.{row, accepted}
 use Rattle.network.specs.Limits.{maxLinks, maxCapacity}
-use Rattle.network.specs.Network.{networkFits, minCutValue}
+use Rattle.network.specs.Network.{networkFits}
 use Rattle.network.specs.NetworkLaws.{capacity-le}
 use Rattle.network.specs.declared.Network.{Network}
 use Rattle.cut_tree.specs.Rule.{rule}
 use Rattle.cut_tree.specs.Path.{answer, numberOf, weightOf}
-use Rattle.cut_tree.specs.declared.Built.{Built}
 use Rattle.cut_tree.specs.declared.PairAnswer.{PairAnswer}
-use Rattle.cut_tree.specs.declared.PairAnswer.the-variants.{Refused, Found}
+use Rattle.cut_tree.specs.declared.PairAnswer.the-variants.{Refused}
 use Rattle.plan.specs.Plan.{maxDepth, push}
 use Rattle.plan.specs.Calls.{changeNumber, undoNumber, altered, unaltered, changed, undone, changeOf, undoOf, pairNumber, pairOf, flowNumber, Flowed}
 use Rattle.plan.specs.Machine.{Call, change, undo, pair, flow, Entry, State, refusal, next, padded, networkAt, stackOf}
 use Rattle.plan.specs.Run.{FlowReply, Reply, numberIn, Promised, planAfter}
-use Rattle.plan.specs.History.{Agrees, RightCount, RightPair, RightFlow, Unaltered, AtCall}
+use Rattle.plan.specs.History.{Agrees, RightPair, RightFlow, Unaltered, AtCall}
 use Rattle.plan.specs.StackLaws.{stack-depth, top-link, top-capacity, pop-stack}
 use Rattle.plan.specs.MachineLaws.{pair-ok, change-ok, refused-next, accepted-next, pair-next, flow-next}
 use Rattle.plan.specs.Layers.{Layers, planAt, Good, sound-at, set-within, altered-plan, altered-count}
 use Rattle.plan.specs.declared.Stack.{Stack}
-use Rattle.plan.specs.declared.Plan.{Plan}
 use Rattle.plan.specs.declared.Changed.{Changed}
 
 module _ (L : Layers) (net : Network) where

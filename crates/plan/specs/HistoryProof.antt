@@ -1,17 +1,17 @@
 -- Demand 3, by induction over the list of calls, over what the layers below prove.
 use mathlib.Core.Path.{_≡_, refl, sym, ap, ap₂, subst, _∙_}
 use mathlib.Core.Logic.{_≢_}
-use mathlib.Core.Bool.{true, not, _&&_}
+use mathlib.Core.Bool.{true, not}
 use mathlib.Core.List.{List, [], _∷_, _++_}
-use Prim.Native.Nat.{ℕ, zero, suc, _+_, _-_, _≤_, _<_}
+use Prim.Native.Nat.{ℕ, zero, suc, _+_, _-_, _<_}
 use native.Mathlib.Omega.{arith}
 use lib.ListN.{length, take, drop, replicate, length-drop, take-append-drop}
 use lib.Seq.{sets, sets-eq, take-append-seam, length-take-le}
-use lib.Dec.{ltb, eqb}
+use lib.Dec.{eqb}
 use borrow.Author.Tests.{eqb-true, lt-ltb, le-ltb, eq-eqb, ne-eqb}
 use Rattle.network.specs.Basics.{blank}
 use Rattle.network.specs.BasicsLaws.{and-l, and-r, shown, head, rest}
-use Rattle.network.specs.Checks.{row, chain, accepted}
+use Rattle.network.specs.Checks.{row, chain}
 use Rattle.network.specs.Limits.{maxLinks}
 use Rattle.network.specs.Network.{networkFits, WithinLimits}
 use Rattle.network.specs.NetworkLaws.{links-le}
@@ -21,19 +21,17 @@ use Rattle.network_file.specs.Writing.{fileOf}
 use Rattle.network_file.specs.declared.Reading.{Reading}
 use Rattle.cut_tree.specs.Rule.{rule}
 use Rattle.cut_tree.specs.Path.{among, pairRows, answer, weightOf}
-use Rattle.cut_tree.specs.declared.Built.{Built}
 use Rattle.plan.specs.Plan.{noStack}
 use Rattle.plan.specs.Calls.{fresh, opened, openOf, pairNumber, pairOf, writeNumber, writeOf, writtenTo}
 use Rattle.plan.specs.Machine.{flow, State, begin, refusal, next, state, numbers, padded, networkAt, stackOf}
-use Rattle.plan.specs.Run.{FlowReply, Event, numberIn, callsOf, numbersOf, Promised, planAfter, Run, left}
-use Rattle.plan.specs.History.{RightPair, RightFlow, AtCall, Replies, Opens, Reopens, Claims, Demand3}
+use Rattle.plan.specs.Run.{FlowReply, Event, callsOf, numbersOf, Promised, Run, left}
+use Rattle.plan.specs.History.{RightPair, RightFlow, Replies, Opens, Reopens, Claims, Demand3}
 use Rattle.plan.specs.MachineLaws.{never}
 use Rattle.plan.specs.Layers.{Layers, planAt, Good, sound-at}
-use Rattle.plan.specs.HistoryLaws.{agrees-at, Stepped, pair-right, flow-step, step}
+use Rattle.plan.specs.HistoryLaws.{agrees-at, pair-right, flow-step, step}
 use Rattle.plan.specs.Standing.{stood}
 use Rattle.plan.specs.declared.Plan.{Plan}
 use Rattle.plan.specs.declared.Opening.{Opening}
-use Rattle.plan.specs.declared.Written.{Written}
 
 module _ (L : Layers) (net : Network) where
   -- ---- the list: the plan that it leaves is that of the machine's state after it

@@ -1,9 +1,9 @@
 -- What the layers below prove, as one record; and the plan that the machine's state makes, by it.
-use mathlib.Core.Path.{_≡_, refl, sym, ap, _∙_}
+use mathlib.Core.Path.{_≡_, sym, ap, _∙_}
 use mathlib.Core.Logic.{_≢_}
 use mathlib.Core.Bool.{Bool, true, false}
-use mathlib.Core.List.{List, [], _∷_}
-use Prim.Native.Nat.{ℕ, zero, suc, _+_, _-_, _≤_, _<_}
+use mathlib.Core.List.{List}
+use Prim.Native.Nat.{ℕ, zero, suc, _-_, _≤_, _<_}
 use native.Mathlib.Omega.{arith}
 use lib.ListN.{length, set}
 use Rattle.min_cut.specs.Sum.{sum}
@@ -15,12 +15,9 @@ use Rattle.network.specs.NetworkLaws.{change-within}
 use Rattle.network.specs.declared.Network.{Network}
 use Rattle.network_file.specs.Reading.{readFile}
 use Rattle.network_file.specs.Writing.{fileOf}
-use Rattle.network_file.specs.declared.Reading.{Reading}
 use Rattle.cut_tree.specs.Rule.{rule}
 use Rattle.cut_tree.specs.Rebuild.{kept, rebuilt, notKept}
 use Rattle.cut_tree.specs.Path.{answer, weightOf}
-use Rattle.cut_tree.specs.declared.Built.{Built}
-use Rattle.cut_tree.specs.declared.Steps.{Steps}
 use Rattle.plan.specs.Plan.{maxDepth, treeFits, stepsFit, sound}
 use Rattle.plan.specs.Calls.{altered}
 use Rattle.plan.specs.Machine.{Entry, State, networkAt, stackOf}
@@ -29,7 +26,6 @@ use Rattle.plan.specs.StackLaws.{Entries, stack-fits}
 use Rattle.plan.specs.History.{RightCount, MinimumCut}
 use Rattle.plan.specs.declared.Stack.{Stack}
 use Rattle.plan.specs.declared.Plan.{Plan}
-use Rattle.plan.specs.declared.Changed.{Changed}
 
 pub record Layers : Type 0 where
   -- the file: what is accepted is within the limits, and what is written is read again

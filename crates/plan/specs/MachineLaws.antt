@@ -10,13 +10,13 @@ use lib.Seq.{set-append-left}
 use lib.Dec.{ltb, eqb}
 use borrow.Author.Tests.{ltb-true, ltb-false, eqb-false, not-false}
 use Rattle.network.specs.BasicsLaws.{and-l, and-r}
-use Rattle.network.specs.Checks.{Row, row, check, chain, accepted}
+use Rattle.network.specs.Checks.{Row, check, chain, accepted}
 use Rattle.network.specs.Limits.{maxCapacity}
 use Rattle.network.specs.Network.{withCapacity}
 use Rattle.network.specs.declared.Network.{Network}
 use Rattle.cut_tree.specs.Path.{among, pairRows}
 use Rattle.plan.specs.Plan.{maxDepth}
-use Rattle.plan.specs.Machine.{Call, change, undo, pair, flow, Entry, State, refusal, moves, next, numbers, padded, networkAt}
+use Rattle.plan.specs.Machine.{Call, change, undo, pair, flow, State, refusal, moves, next, numbers, padded, networkAt}
 
 -- ---- rows that were passed
 module _ (b : Bool) (n later : ℕ) (e : check b (suc n) later ≡ 0) where

@@ -3,25 +3,21 @@
 use Prim.Native.Nat.{ℕ, zero, suc, _+_, _≤_, _<_}
 use mathlib.Core.Path.{_≡_, refl, sym, ap, _∙_}
 use mathlib.Core.Logic.{_≢_, _↔_}
-use mathlib.Core.Bool.{Bool, true, false, not, _&&_}
-use mathlib.Core.List.{List, [], _∷_, _++_}
+use mathlib.Core.Bool.{true, false}
+use mathlib.Core.List.{List, [], _++_}
 use native.Mathlib.Omega.{arith}
 use lib.ListN.{length, drop, replicate}
-use lib.Seq.{sets, sets-eq}
-use lib.Dec.{ltb, eqb}
+use lib.Seq.{sets-eq}
 use lib.IntN.{ℤ, pos}
-use Rattle.network.specs.Checks.{Row, row, chain, accepted, Given, given}
+use Rattle.network.specs.Checks.{chain, accepted, Given, given}
 use Rattle.network.specs.Limits.{maxCapacity}
-use Rattle.network.specs.declared.Network.{Network}
 use Rattle.network_file.specs.Reading.{readFile}
 use Rattle.network_file.specs.Writing.{fileOf}
-use Rattle.network_file.specs.declared.Reading.{Reading}
 use Rattle.cut_tree.specs.Path.{answer, numberOf}
-use Rattle.cut_tree.specs.declared.PairAnswer.{PairAnswer}
-use Rattle.cut_tree.specs.declared.PairAnswer.the-variants.{Refused, Found}
+use Rattle.cut_tree.specs.declared.PairAnswer.the-variants.{Refused}
 use Rattle.plan.specs.Plan.{maxDepth, sound, noPlan}
 use Rattle.text.specs.Text.{textWidth}
-use Rattle.plan.specs.Calls.{maxDemand, fresh, opened, openOf, changeRows, undoRows, changeNumber, undoNumber, altered, unaltered, changed, undone, changeOf, undoOf, nodeRows, pairNumber, pairOf, flowRows, flowNumber, Flowed, headroomRows, headroomNumber, headroomOf, writeRows, writeNumber, writeOf, writtenTo}
+use Rattle.plan.specs.Calls.{maxDemand, fresh, openOf, changeRows, undoRows, changeNumber, undoNumber, altered, unaltered, changed, undone, changeOf, undoOf, nodeRows, pairNumber, pairOf, flowRows, flowNumber, Flowed, headroomRows, headroomNumber, headroomOf, writeRows, writeNumber, writeOf, writtenTo}
 use Rattle.plan.specs.ChecksLaws.{absent, single, under, _and_, at-last, holding, failing, above, not-above, below, not-below, equal, not-equal, unequal, not-unequal, both-below, one-not-below}
 use Rattle.plan.specs.declared.Plan.{Plan}
 use Rattle.plan.specs.declared.Opening.{Opening}

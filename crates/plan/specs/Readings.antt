@@ -1,8 +1,8 @@
 -- "Readings to check", P1 to P12: a table, what it means that a row holds, and that all do, together in one statement.
-use Prim.Native.Nat.{ℕ, zero, suc, _+_, _-_}
+use Prim.Native.Nat.{ℕ, _+_, _-_}
 use mathlib.Core.Path.{_≡_, refl}
-use mathlib.Core.Bool.{Bool, true, false, not, _&&_}
-use mathlib.Core.List.{List, [], _∷_, _++_}
+use mathlib.Core.Bool.{Bool, true, false, _&&_}
+use mathlib.Core.List.{List, [], _∷_}
 use lib.ListN.{take, drop}
 use lib.Dec.{eqb}
 use lib.Count.{ones, onesIn}
@@ -24,7 +24,6 @@ use Rattle.text.specs.Text.{digits, textWidth, rightAligned, textOf}
 use Rattle.plan.specs.Calls.{openOf, changeNumber, undoNumber, altered, changeOf, undoOf, pairNumber, pairOf}
 use Rattle.plan.specs.ResortA.{resortA}
 use Rattle.plan.specs.declared.Plan.{Plan}
-use Rattle.plan.specs.declared.Opening.{Opening}
 use Rattle.plan.specs.declared.Changed.{Changed}
 
 -- link k to capacity c; an undo

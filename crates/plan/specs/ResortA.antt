@@ -16,7 +16,6 @@ use Rattle.cut_tree.specs.declared.Steps.{Steps}
 use Rattle.plan.specs.Plan.{noStack}
 use Rattle.plan.specs.Calls.{openOf}
 use Rattle.plan.specs.declared.Plan.{Plan}
-use Rattle.plan.specs.declared.Opening.{Opening}
 
 abbrev pub resortA : List ℕ
 resortA = 0x04 ∷ 0x05 ∷ 0x00 ∷ 0x01 ∷ 0x05 ∷ 0x01 ∷ 0x02 ∷ 0x03 ∷ 0x02 ∷ 0x03 ∷ 0x04 ∷ 0x00 ∷ 0x03 ∷ 0x02 ∷ 0x00 ∷ 0x02 ∷ 0x01 ∷ []

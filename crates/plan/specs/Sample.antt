@@ -1,29 +1,24 @@
 -- A run from resort A: demand 3 is not empty, and what it says of one list.
-use Prim.Native.Nat.{ℕ, zero, suc, _-_}
 use mathlib.Core.Path.{_≡_, refl, sym, ap, subst, _∙_}
-use mathlib.Core.Logic.{_≢_}
-use mathlib.Core.Bool.{Bool, true, false, not, _&&_}
 use mathlib.Core.List.{List, [], _∷_}
 use native.Mathlib.Omega.{arith}
-use lib.ListN.{length, replicate}
-use lib.Dec.{eqb}
-use lib.IntN.{ℤ, pos}
+use lib.ListN.{replicate}
+use lib.IntN.{pos}
 use Rattle.min_cut.specs.Word.{holds}
 use Rattle.network.specs.Basics.{all, every, blank}
-use Rattle.network.specs.Network.{networkFits, minCutValue, totalOf}
+use Rattle.network.specs.Network.{networkFits}
 use Rattle.cut_tree.specs.Path.{reaches}
 use Rattle.plan.specs.Plan.{treeFits, stepsFit, stackFits, sound}
-use Rattle.plan.specs.Calls.{openOf, changeOf, undoOf, pairOf, flowNumber, Flowed}
-use Rattle.plan.specs.Machine.{change, undo, pair, flow, refusal, next, numbers, state}
+use Rattle.plan.specs.Calls.{changeOf, undoOf, pairOf, flowNumber, Flowed}
+use Rattle.plan.specs.Machine.{change, undo, pair, flow, refusal, next, numbers}
 use Rattle.plan.specs.Run.{FlowReply, Event, Run, numbersOf}
-use Rattle.plan.specs.History.{Agrees, Demand3}
+use Rattle.plan.specs.History.{Demand3}
 use Rattle.plan.specs.Layers.{Layers}
 use Rattle.plan.specs.HistoryProof.{history}
 use Rattle.plan.specs.ResortA.{resortA, planA, opening-A}
 use Rattle.plan.specs.FlowA.{eight, eight-lawful, eight-total}
 use Rattle.plan.specs.declared.Plan.{Plan}
 use Rattle.plan.specs.declared.Opening.{Opening}
-use Rattle.plan.specs.declared.Changed.{Changed}
 
 -- a flow call that is accepted, and one whose buffer is too short
 abbrev filled : FlowReply

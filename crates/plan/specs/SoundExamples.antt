@@ -1,8 +1,8 @@
 -- Soundness by worked plans: resort A's opening is sound, plans at the limits are, and for each clause of document 01's list a plan that
 -- breaks that clause alone is not.
-use Prim.Native.Nat.{ℕ, zero, suc, _*_, _^_}
+use Prim.Native.Nat.{ℕ, zero, suc, _*_}
 use mathlib.Core.Path.{_≡_, refl}
-use mathlib.Core.Bool.{Bool, true, false, not, _&&_}
+use mathlib.Core.Bool.{Bool, true, not, _&&_}
 use mathlib.Core.List.{List, [], _∷_}
 use lib.ListN.{set, replicate}
 use Rattle.min_cut.specs.Word.{holds}

@@ -1,12 +1,12 @@
 -- The machine's stack as the plan's arrays: its depth, its limits, its top, and what a pop leaves.
 use mathlib.Core.Path.{_≡_, refl, sym, ap, _∙_}
-use mathlib.Core.Bool.{Bool, true}
+use mathlib.Core.Bool.{true}
 use mathlib.Core.List.{List, [], _∷_}
-use Prim.Native.Nat.{ℕ, zero, suc, _+_, _-_, _≤_, _<_}
+use Prim.Native.Nat.{ℕ, suc, _+_, _-_, _≤_, _<_}
 use native.Mathlib.Omega.{arith}
 use native.Mathlib.Decide.{ℕ-discrete}
 use native.Mathlib.Numerals.{add-one}
-use lib.ListN.{length, drop, set, replicate, length-set, length-replicate}
+use lib.ListN.{length, set, length-set, length-replicate}
 use lib.Seq.{set-set, set-getD, getD-set-same, getD-set-other, drop-set-lt}
 use borrow.Author.Tests.{lt-ltb, le-leb}
 use Rattle.network.specs.Basics.{at, blankFrom}

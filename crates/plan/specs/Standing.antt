@@ -1,7 +1,7 @@
 -- The capacities are those at opening with each accepted change that is not undone applied in order.
-use mathlib.Core.Path.{_≡_, refl, sym, ap, subst, _∙_}
+use mathlib.Core.Path.{_≡_, sym, ap, subst, _∙_}
 use mathlib.Core.List.{List, [], _∷_}
-use Prim.Native.Nat.{ℕ, zero, suc, _-_, _≤_, _<_}
+use Prim.Native.Nat.{ℕ, zero, suc, _-_, _<_}
 use native.Mathlib.Omega.{arith}
 use lib.ListN.{length, set, replicate, List·getD-append}
 use lib.Seq.{set-set, set-getD}
@@ -11,11 +11,11 @@ use Rattle.network.specs.Limits.{maxLinks}
 use Rattle.network.specs.declared.Network.{Network}
 use Rattle.plan.specs.Machine.{Call, change, undo, pair, flow, Entry, State, refusal, popped, moves, next, state, padded}
 use Rattle.plan.specs.Run.{Event, numberIn, callsOf, Run}
-use Rattle.plan.specs.History.{AtCall, stands, standing, applied}
+use Rattle.plan.specs.History.{stands, standing, applied}
 use Rattle.plan.specs.StackLaws.{Entries}
 use Rattle.plan.specs.MachineLaws.{change-ok, padded-set}
 use Rattle.plan.specs.Layers.{Layers, planAt, Good}
-use Rattle.plan.specs.HistoryLaws.{Stepped, step}
+use Rattle.plan.specs.HistoryLaws.{step}
 use Rattle.plan.specs.declared.Plan.{Plan}
 
 -- Of the capacities at opening, those now, the stack, and the changes that stand: one entry of the stack for each change. The newest change

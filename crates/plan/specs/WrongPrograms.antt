@@ -1,14 +1,14 @@
 -- The buyer's note of document 01: wrong programs, and that what is claimed rules each of them out where the note says so.
-use Prim.Native.Nat.{ℕ, zero, suc, _+_, _-_, _≤_, _<_}
+use Prim.Native.Nat.{ℕ}
 use mathlib.Core.Path.{_≡_, refl, sym, ap, _∙_}
 use mathlib.Core.Logic.{_≢_}
 use mathlib.Core.Bool.{Bool, true, false, not}
 use mathlib.Core.List.{List, [], _∷_, _++_}
 use native.Mathlib.Omega.{arith}
-use lib.ListN.{length, set, replicate, take}
+use lib.ListN.{length, replicate}
 use lib.Dec.{ltb, eqb}
 use lib.Count.{ones, onesIn}
-use lib.IntN.{ℤ, pos, natAbs}
+use lib.IntN.{pos, natAbs}
 use lib.Seq.{getD-take}
 use borrow.Author.Tests.{eqb-true}
 use Rattle.min_cut.specs.Sum.{sum}
@@ -17,7 +17,7 @@ use Rattle.min_cut.specs.Word.{holds, first, leastMinCut, word}
 use Rattle.network.specs.Basics.{pick, at, all, every, blank}
 use Rattle.network.specs.Checks.{row, check, chain}
 use Rattle.network.specs.Limits.{maxCapacity}
-use Rattle.network.specs.Network.{networkFits, withCapacity, minCutValue, totalOf}
+use Rattle.network.specs.Network.{networkFits, withCapacity, totalOf}
 use Rattle.network.specs.declared.Network.{Network}
 use Rattle.network_file.specs.Number.{readGroups, readNumber, groupBytes, numberBytes}
 use Rattle.network_file.specs.Reading.{readLink, readLinks, readAll, readFile}
@@ -25,19 +25,17 @@ use Rattle.network_file.specs.Writing.{linkBytes, fileOf}
 use Rattle.cut_tree.specs.Rule.{moved, stepped, ruleBy, leastCut, rule, noTree}
 use Rattle.cut_tree.specs.Rebuild.{kept, keptOrLeast, rebuilt}
 use Rattle.cut_tree.specs.Path.{reaches, climb, among, without, path, lightest, lightestOn, sideOf, answer, weightOf}
-use Rattle.cut_tree.specs.declared.Built.{Built}
 use Rattle.cut_tree.specs.declared.Tree.{Tree}
 use Rattle.plan.specs.Plan.{maxDepth, treeFits, stepsFit, stackFits, sound, noStack, push}
-use Rattle.plan.specs.Calls.{openOf, changeNumber, altered, changed, changeOf, pairNumber, pairOf, flowNumber, Flowed, writeNumber, writeOf, writtenTo}
-use Rattle.plan.specs.Machine.{Call, change, undo, pair, flow, Entry, State, begin, refusal, next, state}
-use Rattle.plan.specs.Run.{FlowReply, Reply, Event, callsOf, Promised, planAfter, left}
-use Rattle.plan.specs.History.{RightFlow, AtCall, Replies, Opens, Reopens, Demand3}
+use Rattle.plan.specs.Calls.{openOf, changeNumber, altered, changeOf, pairNumber, pairOf, flowNumber, writeNumber, writeOf, writtenTo}
+use Rattle.plan.specs.Machine.{change, undo, flow, State, begin, refusal, next, state}
+use Rattle.plan.specs.Run.{Event, callsOf, Promised, planAfter, left}
+use Rattle.plan.specs.History.{AtCall, Replies, Reopens, Demand3}
 use Rattle.plan.specs.ResortA.{resortA, networkA, stepsA, planA}
 use Rattle.plan.specs.FlowA.{eight, eight-lawful, eight-total}
 use Rattle.plan.specs.declared.Plan.{Plan}
 use Rattle.plan.specs.declared.Opening.{Opening}
 use Rattle.plan.specs.declared.Changed.{Changed}
-use Rattle.plan.specs.declared.Written.{Written}
 
 abbrev changing : (k c : ℕ) → Changed → Event
 changing k c r = record { call = change k c; reply = r }
