@@ -17,3 +17,4 @@ pub mod Numbers
 pub mod FlowA
 pub mod WrongPrograms
 pub mod Sample
+pub mod CallExamples
