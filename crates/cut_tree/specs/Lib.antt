@@ -1,3 +1,17 @@
 pub mod Rule
 pub mod Rebuild
 pub mod Path
+pub mod RuleLaws
+pub mod KeepLaws
+pub mod RebuildLaws
+pub mod RuleTree
+pub mod Depth
+pub mod RuleShape
+pub mod Definition1
+pub mod MemberLaws
+pub mod PathLaws
+pub mod PairLaws
+pub mod TreeValues
+pub mod Definition1Proof
+pub mod AnswerLaws
+pub mod Examples
