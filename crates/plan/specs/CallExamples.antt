@@ -1,6 +1,6 @@
 -- Headroom and writing by worked examples on resort A's plan. Opening, change, undo and pair have theirs among the readings.
 use mathlib.Core.Path.{_≡_, refl}
-use mathlib.Core.List.{List, [], _∷_, _++_}
+use mathlib.Core.List.{[], _∷_, _++_}
 use lib.ListN.{replicate}
 use lib.IntN.{pos, negsuc}
 use lib.Count.{ones, onesIn}

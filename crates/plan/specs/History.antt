@@ -2,20 +2,20 @@
 use Prim.Native.Nat.{ℕ, _-_, _≤_, _<_}
 use mathlib.Core.Path.{_≡_}
 use mathlib.Core.Logic.{_≢_}
-use mathlib.Core.Bool.{Bool, true, false}
+use mathlib.Core.Bool.{true, false}
 use mathlib.Core.List.{List, [], _∷_, tail}
 use lib.ListN.{length, take, set}
 use lib.IntN.{ℤ, pos}
-use Rattle.min_cut.specs.Cut.{differ}
-use Rattle.min_cut.specs.Word.{holds}
 use Rattle.network.specs.Basics.{blankFrom}
 use Rattle.network.specs.Checks.{accepted}
-use Rattle.network.specs.Network.{valueOf, minCutValue, LawfulFlow, totalOf}
+use Rattle.network.specs.Network.{minCutValue, LawfulFlow, totalOf}
 use Rattle.network.specs.declared.Network.{Network}
 use Rattle.network_file.specs.Writing.{fileOf}
 use Rattle.cut_tree.specs.Rule.{rule}
 use Rattle.cut_tree.specs.Rebuild.{notKept}
-use Rattle.cut_tree.specs.Path.{among, answer, numberOf, weightOf, sideIn}
+use Rattle.cut_tree.specs.Path.{among, answer, numberOf, weightOf}
+use Rattle.cut_tree.specs.Definition1.{CutTree}
+use Rattle.cut_tree.specs.AnswerLaws.{MinimumAnswer}
 use Rattle.cut_tree.specs.declared.PairAnswer.{PairAnswer}
 use Rattle.cut_tree.specs.declared.PairAnswer.the-variants.{Refused}
 use Rattle.plan.specs.Plan.{sound, noStack}
@@ -48,18 +48,11 @@ pub record RightCount (G : Network) (k c count : ℕ) : Type 0 where
   pub counted : count ≡ notKept G k c
   pub most : count ≤ G .nodes - 1
 
--- the answer's side holds s and not t, has its weight as value, and no side that separates s from t has a smaller one
-pub record MinimumCut (G : Network) (s t : ℕ) (r : PairAnswer) : Type 0 where
-  pub found : numberOf r ≡ 0
-  pub inside : holds (sideIn r) s ≡ true
-  pub outside : holds (sideIn r) t ≡ false
-  pub value : valueOf G (holds (sideIn r)) ≡ weightOf r
-  pub least : (X : ℕ → Bool) → differ (X s) (X t) ≡ true → weightOf r ≤ valueOf G X
-
--- the lightest edge on the path of the rule's tree, which is a minimum cut
+-- the lightest edge on the path of the rule's tree. Its side holds s and not t and has the weight as value, and no side that separates s
+-- from t has a smaller one.
 pub record RightPair (G : Network) (s t : ℕ) (r : PairAnswer) : Type 0 where
   pub lightest : r ≡ answer (rule G .tree) (G .nodes) s t
-  pub minimum : MinimumCut G s t r
+  pub minimum : MinimumAnswer G s t r
 
 -- a lawful flow, whose total is the value of a minimum cut and the pair's weight
 pub record RightFlow (G : Network) (s t weight : ℕ) (f : List ℤ) : Type 0 where
@@ -140,7 +133,8 @@ pub record Claims (p q : Plan) (x : State) (es : List Event) : Type 0 where
   pub replies : Replies (p .network) (begin (p .network)) p es
   -- opening the file then written gives a fresh plan that is equal but for the stack
   pub reopened : Reopens q
-  -- of every two nodes the pair call's reply is a minimum cut
+  -- its tree is a cut tree of its network, and of every two nodes the pair call's reply is a minimum cut
+  pub cut-tree : CutTree (q .network) (q .tree)
   pub pairs : (s t : ℕ) → s < q .network .nodes → t < q .network .nodes → s ≢ t → RightPair (q .network) s t (pairOf q s t)
   -- and a flow call with one place for each link is accepted, and its total is the pair's weight
   pub flows : (s t : ℕ) → s < q .network .nodes → t < q .network .nodes → s ≢ t → (r : FlowReply) → Promised q (flow s t (q .network .links)) r

@@ -151,6 +151,7 @@ module _ (L : Layers) (net : Network) (w : WithinLimits net) where
           never-19 = ap (among 19) (al .numbered) ∙ never net (callsOf es) (begin net);
           replies = subst (λ (p : Plan). Replies net (begin net) p es) (sym begin-plan) (al .replies);
           reopened = reopened-at L net x g;
+          cut-tree = L .cut-tree (networkAt net (x .capacity)) (g .within);
           pairs = pairs-at L net x g;
           flows = flows-at L net x g;
         }

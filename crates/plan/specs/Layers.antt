@@ -18,12 +18,14 @@ use Rattle.network_file.specs.Writing.{fileOf}
 use Rattle.cut_tree.specs.Rule.{rule}
 use Rattle.cut_tree.specs.Rebuild.{kept, rebuilt, notKept}
 use Rattle.cut_tree.specs.Path.{answer, weightOf}
+use Rattle.cut_tree.specs.Definition1.{CutTree}
+use Rattle.cut_tree.specs.AnswerLaws.{MinimumAnswer}
 use Rattle.plan.specs.Plan.{maxDepth, treeFits, stepsFit, sound}
 use Rattle.plan.specs.Calls.{altered}
 use Rattle.plan.specs.Machine.{Entry, State, networkAt, stackOf}
 use Rattle.plan.specs.MachineLaws.{network-set}
 use Rattle.plan.specs.StackLaws.{Entries, stack-fits}
-use Rattle.plan.specs.History.{RightCount, MinimumCut}
+use Rattle.plan.specs.History.{RightCount}
 use Rattle.plan.specs.declared.Stack.{Stack}
 use Rattle.plan.specs.declared.Plan.{Plan}
 
@@ -40,9 +42,10 @@ pub record Layers : Type 0 where
       → rebuilt net (rule net .steps) k c .steps ≡ rule (withCapacity net k c) .steps
   pub rebuilt-count : (net : Network) → WithinLimits net → (k c : ℕ) → k < net .links → c ≤ maxCapacity
       → rebuilt net (rule net .steps) k c .count ≡ notKept net k c
-  -- the cut tree
+  -- the rule's tree is a cut tree, and a pair's answer from it a minimum cut
+  pub cut-tree : (net : Network) → WithinLimits net → CutTree net (rule net .tree)
   pub answer-minimum : (net : Network) → WithinLimits net → (s t : ℕ) → s < net .nodes → t < net .nodes → s ≢ t
-      → MinimumCut net s t (answer (rule net .tree) (net .nodes) s t)
+      → MinimumAnswer net s t (answer (rule net .tree) (net .nodes) s t)
   pub answer-weight : (net : Network) → WithinLimits net → (s t : ℕ) → s < net .nodes → t < net .nodes → s ≢ t
       → minCutValue net s t ≡ weightOf (answer (rule net .tree) (net .nodes) s t)
 

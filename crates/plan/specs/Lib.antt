@@ -18,3 +18,4 @@ pub mod FlowA
 pub mod WrongPrograms
 pub mod Sample
 pub mod CallExamples
+pub mod ShapeLaws
