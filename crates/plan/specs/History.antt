@@ -133,7 +133,7 @@ pub record Claims (p q : Plan) (x : State) (es : List Event) : Type 0 where
   pub replies : Replies (p .network) (begin (p .network)) p es
   -- opening the file then written gives a fresh plan that is equal but for the stack
   pub reopened : Reopens q
-  -- its tree is a cut tree of its network, and of every two nodes the pair call's reply is a minimum cut
+  -- the plan's tree is a cut tree of its network, and of every two nodes the pair call's reply is a minimum cut
   pub cut-tree : CutTree (q .network) (q .tree)
   pub pairs : (s t : ℕ) → s < q .network .nodes → t < q .network .nodes → s ≢ t → RightPair (q .network) s t (pairOf q s t)
   -- and a flow call with one place for each link is accepted, and its total is the pair's weight
