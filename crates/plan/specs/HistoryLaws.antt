@@ -22,7 +22,7 @@ use Rattle.cut_tree.specs.declared.PairAnswer.{PairAnswer}
 use Rattle.cut_tree.specs.declared.PairAnswer.the-variants.{Refused}
 use Rattle.plan.specs.Plan.{maxDepth, push}
 use Rattle.plan.specs.Calls.{changeNumber, undoNumber, altered, unaltered, changed, undone, changeOf, undoOf, pairNumber, pairOf, flowNumber, Flowed}
-use Rattle.plan.specs.Machine.{Call, change, undo, pair, flow, Entry, State, refusal, next, padded, networkAt, stackOf}
+use Rattle.plan.specs.Machine.{Call, change, undo, pair, flow, Entry, State, refusal, numberAt, next, padded, networkAt, stackOf}
 use Rattle.plan.specs.Run.{FlowReply, Reply, numberIn, Promised, planAfter}
 use Rattle.plan.specs.History.{Agrees, RightPair, RightFlow, Unaltered, AtCall}
 use Rattle.plan.specs.StackLaws.{stack-depth, top-link, top-capacity, pop-stack}
@@ -32,6 +32,13 @@ use Rattle.plan.specs.declared.Stack.{Stack}
 use Rattle.plan.specs.declared.Changed.{Changed}
 
 module _ (L : Layers) (net : Network) where
+  -- the network of a state, and the answer from the rule's tree on it
+  abbrev G : State → Network
+  G x = networkAt net (x .capacity)
+
+  abbrev answerAt : State → (s t : ℕ) → PairAnswer
+  answerAt x s t = answer (rule (networkAt net (x .capacity)) .tree) (net .nodes) s t
+
   pub agrees-at : (x : State) → Good net x → Agrees net x (planAt net x)
   unfolding networkFits
   agrees-at x g =
@@ -55,24 +62,24 @@ module _ (L : Layers) (net : Network) where
 
   -- ---- the plan's numbers are the machine's
   module _ (x : State) (g : Good net x) where
-    change-number : (k c : ℕ) → changeNumber (planAt net x) k c ≡ refusal (net .nodes) (net .links) x (change k c)
+    change-number : (k c : ℕ) → changeNumber (planAt net x) k c ≡ numberAt net x (change k c)
     unfolding changeNumber refusal
     change-number k c = rw (sound-at L net x g, stack-depth (x .stack))
 
-    undo-number : undoNumber (planAt net x) ≡ refusal (net .nodes) (net .links) x undo
+    undo-number : undoNumber (planAt net x) ≡ numberAt net x undo
     unfolding undoNumber refusal
     undo-number = rw (sound-at L net x g, stack-depth (x .stack))
 
-    pub pair-number : (s t : ℕ) → pairNumber (planAt net x) s t ≡ refusal (net .nodes) (net .links) x (pair s t)
+    pub pair-number : (s t : ℕ) → pairNumber (planAt net x) s t ≡ numberAt net x (pair s t)
     unfolding pairNumber refusal
     pair-number s t = rw (sound-at L net x g)
 
-    flow-number : (s t size : ℕ) → flowNumber (planAt net x) s t size ≡ refusal (net .nodes) (net .links) x (flow s t size)
+    flow-number : (s t size : ℕ) → flowNumber (planAt net x) s t size ≡ numberAt net x (flow s t size)
     unfolding flowNumber refusal
     flow-number s t size = rw (sound-at L net x g)
 
   -- ---- a change or undo that is refused: it gives back its plan
-  refused-step : (x : State) → Good net x → (c : Call) (r : Reply c) (e : ℕ) → refusal (net .nodes) (net .links) x c ≡ suc e
+  refused-step : (x : State) → Good net x → (c : Call) (r : Reply c) (e : ℕ) → numberAt net x c ≡ suc e
       → numberIn c r ≡ suc e → Unaltered (planAt net x) c r → planAfter (planAt net x) c r ≡ planAt net x → Stepped x c r
   refused-step x g c r e q n u p =
       record {
@@ -83,11 +90,11 @@ module _ (L : Layers) (net : Network) where
 
   -- ---- change
   module _ (x : State) (g : Good net x) (k c : ℕ) (r : Changed) (h : r ≡ changeOf (planAt net x) k c) where
-    change-by : (e : ℕ) → refusal (net .nodes) (net .links) x (change k c) ≡ e → r ≡ accepted e (changed (planAt net x) k c) (unaltered (planAt net x))
+    change-by : (e : ℕ) → numberAt net x (change k c) ≡ e → r ≡ accepted e (changed (planAt net x) k c) (unaltered (planAt net x))
     unfolding changeOf
     change-by e q = h ∙ ap (λ (v : ℕ). accepted v (changed (planAt net x) k c) (unaltered (planAt net x))) (change-number x g k c ∙ q)
 
-    change-accepted : refusal (net .nodes) (net .links) x (change k c) ≡ 0 → Stepped x (change k c) r
+    change-accepted : numberAt net x (change k c) ≡ 0 → Stepped x (change k c) r
     unfolding stackOf
     change-accepted q = record {
       right = record {
@@ -100,7 +107,7 @@ module _ (L : Layers) (net : Network) where
       good = rw (accepted-next net x (change k c) q) (record {
         long = length-set (x .capacity) k c ∙ g .long;
         within = set-within L net x g k c kl cl;
-        entries = (kl, omega (arith, at-k, capacity-le (networkAt net (x .capacity)) (g .within .fits) k kl), g .entries);
+        entries = (kl, omega (arith, at-k, capacity-le (G x) (g .within .fits) k kl), g .entries);
         deep = omega (arith, ok .2, g .deep);
       });
     }
@@ -133,9 +140,9 @@ module _ (L : Layers) (net : Network) where
         pushed-is = ap (push (stackOf (x .stack)) k) at-k
 
     change-step : Stepped x (change k c) r
-    change-step = go (refusal (net .nodes) (net .links) x (change k c)) refl
+    change-step = go (numberAt net x (change k c)) refl
       where
-        go : (e : ℕ) → refusal (net .nodes) (net .links) x (change k c) ≡ e → Stepped x (change k c) r
+        go : (e : ℕ) → numberAt net x (change k c) ≡ e → Stepped x (change k c) r
         go zero q = change-accepted q
         go (suc e) q =
             let by : r ≡ unaltered (planAt net x) (suc e) = change-by (suc e) q in
@@ -148,7 +155,7 @@ module _ (L : Layers) (net : Network) where
   unfolding undoOf
   undo-step cs [] g r h =
       let x : State = record { capacity = cs; stack = [] } in
-      let q : refusal (net .nodes) (net .links) x undo ≡ 13 = unfold refusal in refl in
+      let q : numberAt net x undo ≡ 13 = unfold refusal in refl in
       let by : r ≡ unaltered (planAt net x) 13 = h ∙ ap (λ (v : ℕ). accepted v (undone (planAt net x)) (unaltered (planAt net x))) (undo-number x g ∙ q) in
       let p : r .plan ≡ planAt net x = ap (λ (v : Changed). v .plan) by in
       refused-step x g undo r 12 q (ap (λ (v : Changed). v .number) by) (p, ap (λ (v : Changed). v .count) by) p
@@ -158,7 +165,7 @@ module _ (L : Layers) (net : Network) where
       let l : length es < maxDepth = omega (arith, g .deep) in
       let kl : e .link < net .links = g .entries .0 in
       let cl : e .capacity ≤ maxCapacity = g .entries .1 in
-      let q : refusal (net .nodes) (net .links) x undo ≡ 0 = unfold refusal in (rw (eqb·suc-zero (length es))) in
+      let q : numberAt net x undo ≡ 0 = unfold refusal in (rw (eqb·suc-zero (length es))) in
       let tops : undone p ≡ altered p (e .link) (e .capacity) (stackOf es) = λ i. altered p (top-link e es l i) (top-capacity e es l i) (pop-stack e es l i) in
       let by : r ≡ altered p (e .link) (e .capacity) (stackOf es) = h ∙ ap (λ (v : ℕ). accepted v (undone p) (unaltered p)) (undo-number x g ∙ q) ∙ tops in
       let number : r .number ≡ 0 = ap (λ (v : Changed). v .number) by ∙ (unfold altered in refl) in
@@ -180,19 +187,19 @@ module _ (L : Layers) (net : Network) where
 
   -- ---- pair
   pub pair-right : (x : State) → Good net x → (s t : ℕ) → s < net .nodes → t < net .nodes → s ≢ t
-      → RightPair (networkAt net (x .capacity)) s t (answer (rule (networkAt net (x .capacity)) .tree) (net .nodes) s t)
-  pair-right x g s t sl tl d = record { lightest = refl; minimum = L .answer-minimum (networkAt net (x .capacity)) (g .within) s t sl tl d }
+      → RightPair (G x) s t (answerAt x s t)
+  pair-right x g s t sl tl d = record { lightest = refl; minimum = L .answer-minimum (G x) (g .within) s t sl tl d }
 
   module _ (x : State) (g : Good net x) (s t : ℕ) (r : PairAnswer) (h : r ≡ pairOf (planAt net x) s t) where
-    pair-by : (e : ℕ) → refusal (net .nodes) (net .links) x (pair s t) ≡ e → r ≡ accepted e (answer (rule (networkAt net (x .capacity)) .tree) (net .nodes) s t) Refused
+    pair-by : (e : ℕ) → numberAt net x (pair s t) ≡ e → r ≡ accepted e (answerAt x s t) Refused
     unfolding pairOf
-    pair-by e q = h ∙ ap (λ (v : ℕ). accepted v (answer (rule (networkAt net (x .capacity)) .tree) (net .nodes) s t) Refused) (pair-number x g s t ∙ q)
+    pair-by e q = h ∙ ap (λ (v : ℕ). accepted v (answerAt x s t) Refused) (pair-number x g s t ∙ q)
 
-    pair-at : (e : ℕ) → refusal (net .nodes) (net .links) x (pair s t) ≡ e → AtCall net x (planAt net x) (pair s t) r
+    pair-at : (e : ℕ) → numberAt net x (pair s t) ≡ e → AtCall net x (planAt net x) (pair s t) r
     unfolding refusal
     pair-at zero q =
         let ok = pair-ok (net .nodes) s t [] q in
-        let by : r ≡ answer (rule (networkAt net (x .capacity)) .tree) (net .nodes) s t = pair-by 0 q in
+        let by : r ≡ answerAt x s t = pair-by 0 q in
         let number : numberOf r ≡ 0 = ap numberOf by ∙ (unfold answer in refl) in
         record {
           plan = agrees-at x g;
@@ -211,17 +218,17 @@ module _ (L : Layers) (net : Network) where
   -- ---- flow
   module _ (x : State) (g : Good net x) (s t size : ℕ) (r : FlowReply)
       (h : (length (r .lent) ≡ size) × Flowed (planAt net x) s t (r .lent) (r .number) (r .filled)) where
-    flow-number-is : r .number ≡ refusal (net .nodes) (net .links) x (flow s t size)
+    flow-number-is : r .number ≡ numberAt net x (flow s t size)
     flow-number-is = h .1 .number-is ∙ ap (flowNumber (planAt net x) s t) (h .0) ∙ flow-number x g s t size
 
-    flow-right : r .number ≡ 0 → RightFlow (networkAt net (x .capacity)) s t (weightOf (answer (rule (networkAt net (x .capacity)) .tree) (net .nodes) s t)) (r .filled)
+    flow-right : r .number ≡ 0 → RightFlow (G x) s t (weightOf (answerAt x s t)) (r .filled)
     unfolding refusal
     flow-right z =
         let ok = pair-ok (net .nodes) s t (row (not (eqb size (net .links))) 16 ∷ []) (sym flow-number-is ∙ z) in
         record {
           lawful = h .1 .lawful z;
           maximum = h .1 .total z;
-          by-weight = h .1 .total z ∙ ap pos (L .answer-weight (networkAt net (x .capacity)) (g .within) s t (ok .0) (ok .1) (ok .2));
+          by-weight = h .1 .total z ∙ ap pos (L .answer-weight (G x) (g .within) s t (ok .0) (ok .1) (ok .2));
         }
 
     pub flow-step : Stepped x (flow s t size) r

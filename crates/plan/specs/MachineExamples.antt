@@ -1,8 +1,8 @@
 -- The machine by worked examples on resort A.
 use mathlib.Core.Path.{_≡_, refl}
-use mathlib.Core.List.{List, [], _∷_, _++_}
+use mathlib.Core.List.{[], _∷_, _++_}
 use lib.ListN.{replicate}
-use Rattle.plan.specs.Machine.{Call, change, undo, pair, flow, begin, refusal, next, state, numbers}
+use Rattle.plan.specs.Machine.{change, undo, pair, flow, begin, refusal, next, state, numbers}
 use Rattle.plan.specs.ResortA.{networkA}
 
 -- a change pushes also when the capacity is equal, so that the undo behind it leaves the first change

@@ -9,7 +9,7 @@ use Rattle.network.specs.Basics.{at}
 use Rattle.network.specs.Checks.{accepted}
 use Rattle.network.specs.Limits.{maxLinks}
 use Rattle.network.specs.declared.Network.{Network}
-use Rattle.plan.specs.Machine.{Call, change, undo, pair, flow, Entry, State, refusal, popped, moves, next, state, padded}
+use Rattle.plan.specs.Machine.{Call, change, undo, pair, flow, Entry, State, numberAt, popped, moves, next, state, padded}
 use Rattle.plan.specs.Run.{Event, numberIn, callsOf, Run}
 use Rattle.plan.specs.History.{stands, standing, applied}
 use Rattle.plan.specs.StackLaws.{Entries}
@@ -54,18 +54,18 @@ module _ (net : Network) (opened : List ℕ) (x : State) (g : Good net x) (ds : 
         rw (padded-set (x .capacity) k c kl, again) b,
       )
 
-  backed-moves : (c : Call) → refusal (net .nodes) (net .links) x c ≡ 0 → Backed opened (padded (moves x c .capacity)) (moves x c .stack) (stands ds c)
+  backed-moves : (c : Call) → numberAt net x c ≡ 0 → Backed opened (padded (moves x c .capacity)) (moves x c .stack) (stands ds c)
   backed-moves (change k c) q = backed-change k c (change-ok (net .nodes) (net .links) x k c q .0)
   backed-moves undo q = backed-undo (net .links) opened (x .capacity) (x .stack) ds (g .long) (g .entries) b
   backed-moves (pair s t) q = b
   backed-moves (flow s t size) q = b
 
-  backed-next : (c : Call) (n : ℕ) → n ≡ refusal (net .nodes) (net .links) x c
+  backed-next : (c : Call) (n : ℕ) → n ≡ numberAt net x c
       → Backed opened (padded (next net x c .capacity)) (next net x c .stack) (accepted n (stands ds c) (λ e. ds))
   unfolding next
   backed-next c n q = rw (← q) (go n q)
     where
-      go : (n : ℕ) → n ≡ refusal (net .nodes) (net .links) x c
+      go : (n : ℕ) → n ≡ numberAt net x c
           → Backed opened (padded (accepted n (moves x c) (λ e. x) .capacity)) (accepted n (moves x c) (λ e. x) .stack) (accepted n (stands ds c) (λ e. ds))
       go zero q = backed-moves c (sym q)
       go (suc n) q = b
