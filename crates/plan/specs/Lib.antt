@@ -4,7 +4,8 @@ pub mod Calls
 pub mod Machine
 pub mod Run
 pub mod History
--- what is shown: demand 1, the buyer's note, the readings
+-- what is shown: demands 3 and 2, demand 1, the buyer's note, the readings
+pub mod Whole
 pub mod Numbers
 pub mod WrongPrograms
 pub mod Readings

@@ -13,7 +13,7 @@ use Rattle.min_cut.specs.Word.{holds, first, leastMinCut, word}
 use Rattle.network.specs.Basics.{all, every, blank}
 use Rattle.network.specs.Network.{networkFits}
 use Rattle.network_file.specs.Number.{readGroups, readNumber}
-use Rattle.network_file.specs.Reading.{readLink, readLinks, readAll, readFile}
+use Rattle.network_file.specs.Reading.{taken, linkAt, readLink, readLinks, readAll, readFile}
 use Rattle.cut_tree.specs.Rule.{moved, stepped, ruleBy, leastCut, rule}
 use Rattle.cut_tree.specs.Rebuild.{kept, keptOrLeast, rebuilt}
 use Rattle.cut_tree.specs.Path.{reaches, climb, among, without, path, lightest, lightestOn, sideOf, answer}
@@ -117,5 +117,5 @@ table =
     ∷ []
 
 pub readings : allStand table ≡ true
-unfolding sum cutValue holds first leastMinCut word all every blank networkFits readGroups readNumber readLink readLinks readAll readFile moved stepped ruleBy leastCut rule kept keptOrLeast rebuilt reaches climb among without path lightest lightestOn sideOf answer treeFits stepsFit stackFits sound digits textOf openOf changeNumber undoNumber altered changeOf undoOf pairNumber pairOf same last played stands allStand table ones onesIn
+unfolding sum cutValue holds first leastMinCut word all every blank networkFits readGroups readNumber taken linkAt readLink readLinks readAll readFile moved stepped ruleBy leastCut rule kept keptOrLeast rebuilt reaches climb among without path lightest lightestOn sideOf answer treeFits stepsFit stackFits sound digits textOf openOf changeNumber undoNumber altered changeOf undoOf pairNumber pairOf same last played stands allStand table ones onesIn
 readings = refl

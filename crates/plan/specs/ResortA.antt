@@ -9,7 +9,7 @@ use Rattle.min_cut.specs.Word.{holds, first, leastMinCut}
 use Rattle.network.specs.Limits.{maxNodes, maxLinks}
 use Rattle.network.specs.declared.Network.{Network}
 use Rattle.network_file.specs.Number.{readGroups, readNumber}
-use Rattle.network_file.specs.Reading.{readLink, readLinks, readAll, readFile}
+use Rattle.network_file.specs.Reading.{taken, linkAt, readLink, readLinks, readAll, readFile}
 use Rattle.cut_tree.specs.Rule.{moved, stepped, ruleBy, leastCut, rule}
 use Rattle.cut_tree.specs.declared.Tree.{Tree}
 use Rattle.cut_tree.specs.declared.Steps.{Steps}
@@ -49,5 +49,5 @@ abbrev pub planA : Plan
 planA = record { network = networkA; tree = treeA; steps = stepsA; stack = noStack }
 
 pub opening-A : openOf resortA ≡ record { number = 0; place = 0; plan = planA }
-unfolding sum cutValue holds first leastMinCut readGroups readNumber readLink readLinks readAll readFile moved stepped ruleBy leastCut rule openOf
+unfolding sum cutValue holds first leastMinCut readGroups readNumber taken linkAt readLink readLinks readAll readFile moved stepped ruleBy leastCut rule openOf
 opening-A = refl

@@ -13,8 +13,7 @@ use Rattle.plan.specs.Calls.{changeOf, undoOf, pairOf, flowNumber, Flowe
 use Rattle.plan.specs.Machine.{change, undo, pair, flow, refusal, next, numbers}
 use Rattle.plan.specs.Run.{FlowReply, Event, Run, numbersOf}
 use Rattle.plan.specs.History.{Demand3}
-use Rattle.plan.specs.Layers.{Layers}
-use Rattle.plan.specs.HistoryProof.{history}
+use Rattle.plan.specs.Whole.{demand-3}
 use Rattle.plan.specs.ResortA.{resortA, planA, opening-A}
 use Rattle.plan.specs.FlowA.{eight, eight-lawful, eight-total}
 use Rattle.plan.specs.declared.Plan.{Plan}
@@ -68,20 +67,19 @@ unfolding events
 run = ((refl, flowed), ((refl, too-short), (refl, (refl, (refl, (refl, (refl, (refl, tt))))))))
 
 -- of resort A's plan
-claimed : Layers → (es : List Event) → Run planA es → Demand3 planA es
-claimed L es =
+claimed : (es : List Event) → Run planA es → Demand3 planA es
+claimed es =
     subst (λ (p : Plan). Run p es → Demand3 p es) (ap (λ (o : Opening). o .plan) opening-A)
-    (history L resortA (ap (λ (o : Opening). o .number) opening-A) es)
+    (demand-3 resortA (ap (λ (o : Opening). o .number) opening-A) es)
 
-module _ (L : Layers) where
-  pub sample : Demand3 planA events
-  sample = claimed L events run
+pub sample : Demand3 planA events
+sample = claimed events run
 
-  -- its numbers, by the machine
-  pub sample-numbers : numbersOf events ≡ 0 ∷ 16 ∷ 0 ∷ 10 ∷ 0 ∷ 13 ∷ 15 ∷ 0 ∷ []
-  unfolding events numbers next refusal
-  sample-numbers = sample .numbered
+-- its numbers, by the machine
+pub sample-numbers : numbersOf events ≡ 0 ∷ 16 ∷ 0 ∷ 10 ∷ 0 ∷ 13 ∷ 15 ∷ 0 ∷ []
+unfolding events numbers next refusal
+sample-numbers = sample .numbered
 
-  -- the empty list: the opening's own plan
-  pub sample-empty : Demand3 planA []
-  sample-empty = claimed L [] tt
+-- the empty list: the opening's own plan
+pub sample-empty : Demand3 planA []
+sample-empty = claimed [] tt

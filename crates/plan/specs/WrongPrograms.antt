@@ -20,7 +20,7 @@ use Rattle.network.specs.Limits.{maxCapacity}
 use Rattle.network.specs.Network.{networkFits, withCapacity, totalOf}
 use Rattle.network.specs.declared.Network.{Network}
 use Rattle.network_file.specs.Number.{readGroups, readNumber, groupBytes, numberBytes}
-use Rattle.network_file.specs.Reading.{readLink, readLinks, readAll, readFile}
+use Rattle.network_file.specs.Reading.{taken, linkAt, readLink, readLinks, readAll, readFile}
 use Rattle.network_file.specs.Writing.{linkBytes, fileOf}
 use Rattle.cut_tree.specs.Rule.{moved, stepped, ruleBy, leastCut, rule, noTree}
 use Rattle.cut_tree.specs.Rebuild.{kept, keptOrLeast, rebuilt}
@@ -51,7 +51,7 @@ stacking p k c count =
 
 -- the fresh plan has all parents 0, where resort A's tree has parent 2
 stale : (count : ℕ) → ¬ (Reopens (stacking planA 3 4 count .plan))
-unfolding sum cutValue holds first leastMinCut all every blank networkFits readGroups readNumber groupBytes numberBytes readLink readLinks readAll readFile linkBytes fileOf moved stepped ruleBy leastCut rule reaches treeFits stepsFit stackFits sound openOf writeNumber writeOf writtenTo
+unfolding sum cutValue holds first leastMinCut all every blank networkFits readGroups readNumber groupBytes numberBytes taken linkAt readLink readLinks readAll readFile linkBytes fileOf moved stepped ruleBy leastCut rule reaches treeFits stepsFit stackFits sound openOf writeNumber writeOf writtenTo
 stale count h =
     let e : _≡_ {A = ℕ} 0 2 = ap (λ (t : Tree). at (t .parent) 3) (h (replicate 17 0) (omega arith) .1 .tree) in
     omega arith
@@ -75,7 +75,7 @@ once-right count = refl
 
 -- but not over the list: of the second plan, with weights 8, 8 and 8, the fresh one has weight 6 at node 2
 pub works-once : (count : ℕ) → ¬ (Demand3 planA (twice count))
-unfolding left sum cutValue holds first leastMinCut all every blank networkFits readGroups readNumber groupBytes numberBytes readLink readLinks readAll readFile linkBytes fileOf moved stepped ruleBy leastCut rule kept keptOrLeast rebuilt reaches treeFits stepsFit stackFits sound openOf changeNumber altered changeOf writeNumber writeOf writtenTo
+unfolding left sum cutValue holds first leastMinCut all every blank networkFits readGroups readNumber groupBytes numberBytes taken linkAt readLink readLinks readAll readFile linkBytes fileOf moved stepped ruleBy leastCut rule kept keptOrLeast rebuilt reaches treeFits stepsFit stackFits sound openOf changeNumber altered changeOf writeNumber writeOf writtenTo
 works-once count d =
     let e : _≡_ {A = ℕ} 6 8 = ap (λ (t : Tree). at (t .weight) 2) (d .reopened (replicate 17 0) (omega arith) .1 .tree) in
     omega arith
@@ -159,7 +159,7 @@ star-of-zeros d =
 
 -- ---- an opening that turns every file down
 pub turns-all-down : (opening : List ℕ → Opening) → ((file : List ℕ) → opening file .number ≢ 0) → ¬ ((file : List ℕ) → opening file ≡ openOf file)
-unfolding readGroups readNumber readLink readLinks readAll readFile openOf
+unfolding readGroups readNumber taken linkAt readLink readLinks readAll readFile openOf
 turns-all-down opening refuses h = refuses resortA (ap (λ (o : Opening). o .number) (h resortA))
 
 -- ---- an undo of a link that was changed twice, to its opening capacity (3): the machine has the one before the second change (1)
