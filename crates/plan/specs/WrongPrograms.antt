@@ -17,7 +17,7 @@ use Rattle.min_cut.specs.Word.{holds, first, leastMinCut, word}
 use Rattle.network.specs.Basics.{pick, at, all, every, blank}
 use Rattle.network.specs.Checks.{row, check, chain}
 use Rattle.network.specs.Limits.{maxCapacity}
-use Rattle.network.specs.Network.{networkFits, withCapacity, totalOf}
+use Rattle.network.specs.Network.{networkFits, WithinLimits, withCapacity, totalOf}
 use Rattle.network.specs.declared.Network.{Network}
 use Rattle.network_file.specs.Number.{readGroups, readNumber, groupBytes, numberBytes}
 use Rattle.network_file.specs.Reading.{taken, linkAt, readLink, readLinks, readAll, readFile}
@@ -31,7 +31,8 @@ use Rattle.plan.specs.Calls.{openOf, changeNumber, altered, changeOf, pa
 use Rattle.plan.specs.Machine.{change, undo, flow, State, begin, refusal, next, state}
 use Rattle.plan.specs.Run.{Event, callsOf, Promised, planAfter, left}
 use Rattle.plan.specs.History.{AtCall, Replies, Reopens, Demand3}
-use Rattle.plan.specs.ResortA.{resortA, networkA, stepsA, planA}
+use Rattle.plan.specs.Whole.{opens-every-network}
+use Rattle.plan.specs.ResortA.{resortA, networkA, stepsA, planA, opening-A}
 use Rattle.plan.specs.FlowA.{eight, eight-lawful, eight-total}
 use Rattle.plan.specs.declared.Plan.{Plan}
 use Rattle.plan.specs.declared.Opening.{Opening}
@@ -157,10 +158,13 @@ star-of-zeros d =
     let z : _≡_ {A = ℕ} 8 0 = ap natAbs (sym (eight-total .0) ∙ f ∙ ap pos star-weight) in
     omega arith
 
--- ---- an opening that turns every file down
+-- ---- an opening that turns every file down, and even one that turns down the file of one network within the limits
+pub turns-one-down : (opening : List ℕ → Opening) (net : Network) → WithinLimits net → opening (fileOf net) .number ≢ 0
+    → ¬ ((file : List ℕ) → opening file ≡ openOf file)
+turns-one-down opening net w refuses h = refuses (ap (λ (o : Opening). o .number) (h (fileOf net) ∙ opens-every-network net w))
+
 pub turns-all-down : (opening : List ℕ → Opening) → ((file : List ℕ) → opening file .number ≢ 0) → ¬ ((file : List ℕ) → opening file ≡ openOf file)
-unfolding readGroups readNumber taken linkAt readLink readLinks readAll readFile openOf
-turns-all-down opening refuses h = refuses resortA (ap (λ (o : Opening). o .number) (h resortA))
+turns-all-down opening refuses h = refuses resortA (ap (λ (o : Opening). o .number) (h resortA ∙ opening-A))
 
 -- ---- an undo of a link that was changed twice, to its opening capacity (3): the machine has the one before the second change (1)
 pub undoes-one : (r₁ r₂ r : Changed) → Demand3 planA (changing 1 1 r₁ ∷ changing 1 2 r₂ ∷ record { call = undo; reply = r } ∷ [])
