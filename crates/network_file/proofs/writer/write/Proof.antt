@@ -49,9 +49,10 @@ write-links-requires c κs =
     let e = w1 .before .before .before in
     let st = e .before .before .before in
     let first = w1 .write-number in
-    let second = w2 .write-number2 in
-    (st .pre,
-    omega (arith, second .ensures .0, second .kept .0, first .ensures .0, first .kept .0, e .if1 .left, e .before .file-length .ensures, file-long (st .args .net)))
+    let second = w2 .write-number2 in (
+      st .pre,
+      omega (arith, second .ensures .0, second .kept .0, first .ensures .0, first .kept .0, e .if1 .left, e .before .file-length .ensures, file-long (st .args .net)),
+    )
 
 same-length : tie.Need-same-length
 same-length c = search needs

@@ -45,9 +45,10 @@ returns c =
     let st = w1 .before .before .before in
     let e1 = w1 .write-number .ensures in
     let e2 = w2 .write-number2 .ensures in
-    let e3 = w3 .write-number3 .ensures in
-    (omega (arith, e1 .0, e2 .0, e3 .0, long st),
-    three-runs (numberBytes (st .args .a)) (numberBytes (st .args .b)) (numberBytes (st .args .capacity)) _ _ _ (e1 .0) (e2 .0) _ _ _ _ (e1 .1) (e2 .1) (e3 .1))
+    let e3 = w3 .write-number3 .ensures in (
+      omega (arith, e1 .0, e2 .0, e3 .0, long st),
+      three-runs (numberBytes (st .args .a)) (numberBytes (st .args .b)) (numberBytes (st .args .capacity)) _ _ _ (e1 .0) (e2 .0) _ _ _ _ (e1 .1) (e2 .1) (e3 .1),
+    )
 
 pub write-link-spec : {M : Type 1} → statement M
 write-link-spec =
