@@ -1,3 +1,9 @@
+pub mod path;
+
+pub use path::MAX_CLIMB;
+pub use path::query;
+pub use path::reaches_root;
+
 // A cut tree: every node's parent, and the weight of the edge between them. Node 0 has parent 0 and weight 0.
 pub struct Tree {
     pub parent: [u8; 64],

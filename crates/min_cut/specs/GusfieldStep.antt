@@ -12,7 +12,8 @@ use Rattle.min_cut.specs.Cut.{Net, Side, cutValue, complement, MinCut}
 use Rattle.min_cut.specs.CutLaws.{cutValue-complement, complement-minimum}
 use Rattle.min_cut.specs.Uncross.{uncrossed, uncrossed-own, uncrossed-in, uncrossed-out, uncrossed-minimum, graft, lift}
 use Rattle.min_cut.specs.Word.{bit}
-use Rattle.min_cut.specs.GusfieldTree.{Tree, Cut-tree, Goes, along, stays, far, put, put-same, put-other}
+use Rattle.min_cut.specs.Put.{put, put-same, put-other}
+use Rattle.min_cut.specs.GusfieldTree.{Tree, Cut-tree, Goes, along, stays, far}
 
 -- X uncrossed with the sides of t's neighbours below k
 base : Bool → (ℕ → Side) → (u t : ℕ) → Side → Side

@@ -10,18 +10,6 @@ use borrow.Author.Tests.{eq-eqb, ne-eqb}
 use Rattle.min_cut.specs.Bools.{bool1}
 use Rattle.min_cut.specs.Cut.{Net, Side, cutValue, MinCut}
 
--- f with v at k
-unfoldable pub put {ℓ} : {A : Type ℓ} → (ℕ → A) → ℕ → A → ℕ → A
-put f k v i = cond (eqb i k) v (f i)
-
-pub put-same {ℓ} : {A : Type ℓ} (f : ℕ → A) (k : ℕ) (v : A) → put f k v k ≡ v
-unfolding put
-put-same f k v = rw (eq-eqb k k refl)
-
-pub put-other {ℓ} : {A : Type ℓ} (f : ℕ → A) (k : ℕ) (v : A) (i : ℕ) → i ≢ k → put f k v i ≡ f i
-unfolding put
-put-other f k v i n = rw (ne-eqb i k n)
-
 -- the tree of the nodes below i: p x is x's parent, Z y the side below y, a minimum cut between y and p y, w y its value, r a rank
 pub record Tree (G : Net) (i : ℕ) (p w : ℕ → ℕ) (Z : ℕ → Side) (r : ℕ → ℕ) : Type 0 where
   pub one : 0 < i

@@ -1,5 +1,6 @@
 pub mod Bools
 pub mod Sum
+pub mod Put
 pub mod Cut
 pub mod CutLaws
 pub mod Word
@@ -7,6 +8,9 @@ pub mod WordLaws
 pub mod LeastCut
 pub mod Residual
 pub mod Lawful
+pub mod IntParts
+pub mod OutflowLaws
+pub mod MaxFlow
 pub mod Arcs
 pub mod Uncross
 pub mod GusfieldTree
