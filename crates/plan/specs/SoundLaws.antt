@@ -1,17 +1,20 @@
 -- Laws of the tests of soundness: the word of all nodes as a bound of sides, the steps from node 1 on.
 use mathlib.Core.Path.{_≡_, refl, sym, _∙_}
 use mathlib.Core.Bool.{Bool, true, false}
+use mathlib.Core.List.{List}
 use Prim.Native.Nat.{ℕ, zero, suc, _+_, _-_, _^_, _≤_, _<_}
 use native.Mathlib.Omega.{arith}
 use lib.Dec.{ltb}
 use lib.Pow.{pow-pos}
-use borrow.Author.Tests.{lt-ltb, le-ltb}
+use borrow.Author.Tests.{lt-ltb, le-ltb, ltb-true}
 use Rattle.network.specs.Basics.{at, all}
-use Rattle.network.specs.BasicsLaws.{all-none, all-more, all-fails}
+use Rattle.network.specs.BasicsLaws.{all-at, all-none, all-more, all-fails}
+use Rattle.network.specs.Limits.{maxNodes}
 use Rattle.node_set.specs.Set.{allBelow}
+use Rattle.cut_tree.specs.Climb.{Inside}
 use Rattle.cut_tree.specs.declared.Steps.{Steps}
 use Rattle.plan.specs.Plan.{stepFits}
-use Rattle.plan.specs.SoundTests.{rootStepWithin, stepWithin}
+use Rattle.plan.specs.SoundTests.{parentsWithin, rootStepWithin, stepWithin}
 
 -- no node of the side is n or above just if the side is at most the word of the nodes below n
 module _ (n side r : ℕ) (e : r ≡ allBelow n) where
@@ -22,6 +25,10 @@ module _ (n side r : ℕ) (e : r ≡ allBelow n) where
   pub side-outside : r < side → ltb side (2 ^ n) ≡ false
   unfolding allBelow
   side-outside l = le-ltb side (2 ^ n) (omega (arith, pow-pos n))
+
+-- a climb along parents that are nodes stays among the nodes
+pub parents-inside : (n : ℕ) (parent : List ℕ) → n ≤ maxNodes → parentsWithin n parent ≡ true → (i : ℕ) → i < n → Inside parent i
+parents-inside n parent small e i l = record { bound = n; small = small; here = l; stays = λ j q. ltb-true (at parent j) n (all-at n (λ i. ltb (at parent i) n) e j q) }
 
 -- the loop over the steps: node 0's, and then each other's
 module _ (n : ℕ) (steps : Steps) where

@@ -1,16 +1,20 @@
 // Whether a plan, whatever it holds, is sound (document 01, "The plan and its changes"; number 19).
 use crate::MAX_DEPTH;
+use crate::Plan;
 use crate::Stack;
+use cut_tree::MAX_CLIMB;
 use cut_tree::Steps;
+use cut_tree::Tree;
 use network::MAX_CAPACITY;
 use network::MAX_VALUE;
 ghost use lib.Dec.{ltb};
+ghost use mathlib.Core.Bool.{true};
 ghost use mathlib.Core.Path.{_≡_};
 ghost use Prim.Native.Nat.{_<_, _≤_};
 ghost use Rattle.network.specs.Basics.{all};
 ghost use Rattle.network.specs.Limits.{maxNodes};
-ghost use Rattle.plan.specs.Plan.{maxDepth, stepFits, stepsFit, entryFits, stackFits};
-ghost use Rattle.plan.specs.SoundTests.{parentsWithin, weightsWithin, rootStepWithin, stepWithin, entryWithin};
+ghost use Rattle.plan.specs.Plan.{maxDepth, treeFits, stepFits, stepsFit, entryFits, stackFits, sound};
+ghost use Rattle.plan.specs.SoundTests.{parentsWithin, weightsWithin, rooted, rootStepWithin, stepWithin, entryWithin};
 
 fn is_node(i: u8, n: usize) -> bool
     ensures { λ r. ⌜ r ≡ ltb i n ⌝ }
@@ -40,6 +44,43 @@ fn weights_within(weight: &[u32; 64], n: usize) -> bool
         }
     }
     true
+}
+
+fn rooted(parent: &[u8; 64], n: usize) -> bool
+    requires { ⌜ (n ≤ maxNodes) × (parentsWithin n (now parent) ≡ true) ⌝ }
+    ensures { λ r. ⌜ r ≡ rooted n (now (parent .entry)) ⌝ }
+{
+    for i in 0..n {
+        if !cut_tree::reaches_root(parent, MAX_CLIMB, i) {
+            return false;
+        }
+    }
+    true
+}
+
+fn tree_fits(tree: Tree, n: usize) -> bool
+    requires { ⌜ n ≤ maxNodes ⌝ }
+    ensures { λ r. ⌜ r ≡ treeFits n tree ⌝ }
+{
+    if tree.parent[0] != 0 {
+        return false;
+    }
+    if tree.weight[0] != 0 {
+        return false;
+    }
+    if !parents_within(&tree.parent, n) {
+        return false;
+    }
+    if !weights_within(&tree.weight, n) {
+        return false;
+    }
+    if !rooted(&tree.parent, n) {
+        return false;
+    }
+    if !network::blank_from_u8(&tree.parent, n) {
+        return false;
+    }
+    network::blank_from_u32(&tree.weight, n)
 }
 
 fn root_step_within(pivot: u8, side: u64, value: u32) -> bool
@@ -141,4 +182,22 @@ fn stack_fits(stack: Stack, m: usize) -> bool
         return false;
     }
     network::blank_from_u32(&stack.capacity, depth)
+}
+
+pub fn is_sound(p: Plan) -> bool
+    ensures { λ r. ⌜ r ≡ sound p ⌝ }
+{
+    let net = p.network;
+    let n = net.nodes;
+    let m = net.links;
+    if !network::fits(net) {
+        return false;
+    }
+    if !tree_fits(p.tree, n) {
+        return false;
+    }
+    if !steps_fit(p.steps, n) {
+        return false;
+    }
+    stack_fits(p.stack, m)
 }
