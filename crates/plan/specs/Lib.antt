@@ -4,3 +4,6 @@ pub mod Machine
 pub mod History
 pub mod SoundTests
 pub mod SoundLaws
+pub mod SoundFacts
+pub mod CallParts
+pub mod CallLaws
