@@ -75,7 +75,7 @@ module _ (net : Network) (w : WithinLimits net) (k d : ℕ) (kl : k < net .links
         ap (crossing x y) new ∙ crossing-pick x y d,
         crossing-pick x y (at (net .capacity) k),
         sum-at (net .links) (term (at (set (net .capacity) k d))) (term (at (net .capacity))) k kl
-            (λ i n. ap (crossing (X (at (net .a) i)) (X (at (net .b) i))) (getD-set-other (net .capacity) k i d 0 n)),
+        (λ i n. ap (crossing (X (at (net .a) i)) (X (at (net .b) i))) (getD-set-other (net .capacity) k i d 0 n)),
       )
 
   lost : (p : Bool) (c v v' : ℕ) → v' + pick p c 0 ≡ v + pick p d 0 → v ≤ v' + (c - d)
@@ -107,5 +107,5 @@ module _ (net : Network) (w : WithinLimits net) (k d : ℕ) (kl : k < net .links
       let h = survives-loses (holds X) (minCutValue net s t) e in
       let x = loses-least net new s t (at (net .capacity) k - d) (holds X) h (leastMinCut-least (net .nodes) G s t in-net sl tl n) in
       let same : leastSide new s t ≡ X =
-      leastMinCut-word (net .nodes) (graph new) s t in-net sl tl n X (leastMinCut-lt (net .nodes) G s t in-net sl tl n) (x .minimum) (λ y yl m i il q. x .contained (holds y) m i q) in
+          leastMinCut-word (net .nodes) (graph new) s t in-net sl tl n X (leastMinCut-lt (net .nodes) G s t in-net sl tl n) (x .minimum) (λ y yl m i il q. x .contained (holds y) m i q) in
       (same, omega (arith, ap (λ v. valueOf new (holds v)) same, h .own))

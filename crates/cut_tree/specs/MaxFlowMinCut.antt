@@ -203,7 +203,7 @@ module _ (G : Net) (n : ℕ) (w : Within G n) (s t : ℕ) (sl : s < n) (tl : t <
       let F = final in
       let m = full-minimum G s t (F .v) (F .p) (F .q) (F .flows) (F .R) (F .inside) (F .outside) (F .closed) in
       let e : F .v ≡ cutValue G X =
-      omega (arith, full G s t (F .v) (F .p) (F .q) (F .flows) (F .R) (F .inside) (F .outside) (F .closed), m .least X (x .inside) (x .outside), x .least (F .R) (F .inside) (F .outside)) in
+          omega (arith, full G s t (F .v) (F .p) (F .q) (F .flows) (F .R) (F .inside) (F .outside) (F .closed), m .least X (x .inside) (x .outside), x .least (F .R) (F .inside) (F .outside)) in
       let f : ℕ → ℤ = λ k. pos (G .c k) -ℤ pos (F .p k) in
       let lawful = residual-lawful G s t (F .v) d (F .p) (F .q) (F .flows) f (λ k l. F .both k) (λ k l. refl) n in
       let total = residual-total G s t (F .v) d (F .p) (F .q) (F .flows) f (λ k l. F .both k) (λ k l. refl) in

@@ -153,7 +153,7 @@ count-is cut (suc k) l =
     let t = at (b .tree .parent) (suc k) in
     let now : at (set (b .steps .pivot) (suc k) t) (suc k) ≡ t = getD-set-same (b .steps .pivot) (suc k) t 0 (omega (arith, rule-long cut k .pivot)) in
     let old = sum-ext k (λ i. cut (suc i) (at (b .steps .pivot) (suc i)) .anew) (λ i. cut (suc i) (at (set (b .steps .pivot) (suc k) t) (suc i)) .anew)
-    (λ i il. ap (λ v. cut (suc i) v .anew) (sym (getD-set-other (b .steps .pivot) (suc k) (suc i) t 0 (λ q. omega arith)))) in
+        (λ i il. ap (λ v. cut (suc i) v .anew) (sym (getD-set-other (b .steps .pivot) (suc k) (suc i) t 0 (λ q. omega arith)))) in
     omega (arith, count-is cut k (omega arith), old, ap (λ v. cut (suc k) v .anew) now)
 
 -- ---- equal cuts give equal trees and steps

@@ -104,7 +104,7 @@ module _ (net : Network) (e : networkFits net ≡ true) where
       let up = holds X (at (b .tree .parent) t) in
       let ns : 0 ≢ suc k = omega arith in
       let nt : up ≡ true → 0 ≢ t =
-      λ u q. true≢false (sym u ∙ ap (λ v. holds X (at (b .tree .parent) v)) (sym q) ∙ ap (holds X) (ih .parent ∙ q) ∙ least-minimum net e (suc k) t l (pivot-lt k) .outside) in
+          λ u q. true≢false (sym u ∙ ap (λ v. holds X (at (b .tree .parent) v)) (sym q) ∙ ap (holds X) (ih .parent ∙ q) ∙ least-minimum net e (suc k) t l (pivot-lt k) .outside) in
       record {
         parent = steps-tree net e (suc k) l .2 .home;
         weight = weight-out up (b .tree) (suc k) t X w 0 ns nt ∙ ih .weight;

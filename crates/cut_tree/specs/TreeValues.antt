@@ -61,14 +61,14 @@ module _ (G : Net) (n : ℕ) (w : Within G n) (tree : Tree) (T : Placed G n tree
       over e =
           let r = T .1 in
           let d : Edge G n (at (tree .parent)) (at (tree .weight)) (T .0) r (T .2) X u v =
-          edge G n (at (tree .parent)) (at (tree .weight)) (T .0) r (T .2) X (suc (r u + r v)) u v (omega arith) (w k l .0) (w k l .1) e in
+              edge G n (at (tree .parent)) (at (tree .weight)) (T .0) r (T .2) X (suc (r u + r v)) u v (omega arith) (w k l .0) (w k l .1) e in
           let x : ℕ = d .0 in
           let xp : 0 < x = d .1 in
           let xl : x < n = d .2 in
           let q : x ≡ suc (x - 1) = omega arith in
           let f : share X (x - 1) k ≡ G .c k =
-          subst (λ y. crossing (X y) (X (at (tree .parent) y)) (crossing (T .0 y u) (T .0 y v) (G .c k)) ≡ G .c k) q
-          (crossing-apart (crossing (T .0 x u) (T .0 x v) (G .c k)) (X x) (X (at (tree .parent) x)) (d .4) ∙ crossing-apart (G .c k) (T .0 x u) (T .0 x v) (d .3)) in
+              subst (λ y. crossing (X y) (X (at (tree .parent) y)) (crossing (T .0 y u) (T .0 y v) (G .c k)) ≡ G .c k) q
+              (crossing-apart (crossing (T .0 x u) (T .0 x v) (G .c k)) (X x) (X (at (tree .parent) x)) (d .4) ∙ crossing-apart (G .c k) (T .0 x u) (T .0 x v) (d .3)) in
           omega (arith, sum-term (n - 1) (λ i. share X i k) (x - 1) (omega arith), f)
 
       go : (a : Bool) → X u ≡ a → (b : Bool) → X v ≡ b → crossing a b (G .c k) ≤ sum (n - 1) (λ i. share X i k)
