@@ -1,7 +1,9 @@
 pub mod Plan
 pub mod Calls
 pub mod Machine
+pub mod Run
 pub mod History
+pub mod MachineLaws
 pub mod SoundTests
 pub mod SoundLaws
 pub mod SoundFacts
