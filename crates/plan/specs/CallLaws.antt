@@ -4,16 +4,19 @@ use mathlib.Core.Bool.{Bool, true, false, not, _&&_}
 use mathlib.Core.List.{List, [], _∷_}
 use Prim.Native.Nat.{ℕ, zero, suc, _≤_, _<_}
 use native.Mathlib.Omega.{arith}
+use lib.ListN.{length}
 use lib.Dec.{ltb, eqb}
-use lib.IntN.{pos, _-ℤ_}
+use lib.IntN.{ℤ, pos, _-ℤ_}
 use borrow.Author.Tests.{lt-ltb, le-ltb, not-false}
-use Rattle.network.specs.Checks.{Row, row, check, chain, accepted}
+use Rattle.network.specs.Checks.{Row, row, check, chain, accepted, Given, only}
 use Rattle.network.specs.Limits.{maxValue}
+use Rattle.max_flow.specs.LargestFlow.{LargestFlow}
 use Rattle.cut_tree.specs.Path.{pairRows, lightestOn, answer, queryOf, numberOf, weightOf}
 use Rattle.cut_tree.specs.declared.PairAnswer.{PairAnswer}
 use Rattle.cut_tree.specs.declared.PairAnswer.the-variants.{Refused, Found}
 use Rattle.plan.specs.Plan.{sound}
-use Rattle.plan.specs.Calls.{maxDemand, unsound, pairNumber, pairOf, headroomBy, headroomNumber, headroomOf}
+use Rattle.plan.specs.Calls.{maxDemand, unsound, pairNumber, pairOf, flowRows, flowNumber, Flowed, headroomBy, headroomNumber, headroomOf}
+use Rattle.plan.specs.ChecksLaws.{one-not-below}
 use Rattle.plan.specs.SoundFacts.{sound-weight}
 use Rattle.plan.specs.CallParts.{refusedHeadroom}
 use Rattle.plan.specs.declared.Plan.{Plan}
@@ -84,3 +87,20 @@ module _ (p : Plan) (s t : ℕ) where
     pub headroom-found : (demand : ℕ) → demand ≤ maxDemand → headroomOf p s t demand ≡ headroomBy (pos w -ℤ pos demand)
     unfolding headroomOf headroomNumber
     headroom-found demand l = rw (by-pair (row (ltb maxDemand demand) 17 ∷ []) .1, le-ltb maxDemand demand l, by-pair [] .2)
+
+-- ---- flow
+-- s is no node; t is none
+pub first-outside : (s t n : ℕ) → n ≤ s → not (ltb s n && ltb t n) ≡ true
+first-outside s t n l = one-not-below s t n .1 (λ h. omega (arith, h .0))
+
+pub other-outside : (s t n : ℕ) → n ≤ t → not (ltb s n && ltb t n) ≡ true
+other-outside s t n l = one-not-below s t n .1 (λ h. omega (arith, h .1))
+
+module _ (p : Plan) (s t : ℕ) (before : List ℤ) where
+  pub flow-refused : (e : ℕ) → Given (flowRows p s t (length before)) (suc e) → Flowed p s t before (suc e) before
+  unfolding flowNumber
+  flow-refused e g = record { number-is = sym (only g); lawful = λ q. absurd (omega arith); total = λ q. absurd (omega arith); untouched = λ q. refl }
+
+  pub flow-filled : (behind : List ℤ) → Given (flowRows p s t (length before)) 0 → LargestFlow (p .network) s t behind → Flowed p s t before 0 behind
+  unfolding flowNumber
+  flow-filled behind g f = record { number-is = sym (only g); lawful = λ q. f .lawful; total = λ q. f .total; untouched = λ q. absurd (q refl) }

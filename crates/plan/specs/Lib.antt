@@ -4,6 +4,7 @@ pub mod Machine
 pub mod Run
 pub mod History
 pub mod MachineLaws
+pub mod ChecksLaws
 pub mod SoundTests
 pub mod SoundLaws
 pub mod SoundFacts

@@ -4,6 +4,7 @@
 mod answers; // pairs and headrooms
 mod checks; // refusals of change and undo
 mod sound; // number 19: the shape of a plan
+mod flows; // the flow call
 mod entries; // changes that can be undone
 
 use cut_tree::Steps;
