@@ -18,7 +18,7 @@ use Rattle.network_file.specs.NumberLaws.{last-group, more-groups}
 use Rattle.network_file.specs.Writing.{linkBytes, fileOf, maxFile, largest}
 
 -- ---- numbers
-groups-most : (most v : ℕ) → length (groupBytes most v) ≤ most
+pub groups-most : (most v : ℕ) → length (groupBytes most v) ≤ most
 unfolding groupBytes
 groups-most zero v = omega arith
 groups-most (suc most) v = go (ltb v 128) refl (groups-most most (v / 128))

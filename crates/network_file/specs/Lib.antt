@@ -11,3 +11,6 @@ pub mod FileLaws
 pub mod FaultLaws
 pub mod LengthLaws
 pub mod Files
+pub mod NumberSteps
+pub mod ReadingSteps
+pub mod LinksSteps

@@ -33,12 +33,21 @@ otherEndRow n a b = chain (row (not (ltb b n)) 6 ∷ row (eqb b a) 7 ∷ [])
 abbrev pub capacityRow : ℕ → ℕ
 capacityRow c = chain (row (ltb maxCapacity c) 8 ∷ [])
 
+-- no row of its own
+abbrev pub noRow : ℕ → ℕ
+noRow v = 0
+
+abbrev pub noNumber : ℕ → ℕ → Taken
+noNumber e place = record { number = e; value = 0; next = place }
+
+abbrev pub aNumber : ℕ → ℕ → Taken
+aNumber v next = record { number = 0; value = v; next = next }
+
 -- the number in what is left of the file: 1 to 3, then its row; its value, and the place behind it
 unfoldable pub taken : List ℕ → ℕ → (ℕ → ℕ) → Taken
 taken s place row =
     let r = readNumber (drop place s) in
-    accepted (check (ltb 0 (numberOf r)) (numberOf r) (row (valueIn r))) (record { number = 0; value = valueIn r; next = place + sizeIn r })
-    (λ e. record { number = e; value = 0; next = place })
+    accepted (check (ltb 0 (numberOf r)) (numberOf r) (row (valueIn r))) (aNumber (valueIn r) (place + sizeIn r)) (λ e. noNumber e place)
 
 -- a number, and on with its value and the next place; or a stop with its refusal number and its place
 abbrev pub taking : {A : Type 0} → List ℕ → ℕ → (ℕ → ℕ) → (ℕ → ℕ → A) → (ℕ → ℕ → A) → A

@@ -17,7 +17,7 @@ use Rattle.network.specs.Network.{networkFits, WithinLimits}
 use Rattle.network.specs.NetworkLaws.{nodes-pos, nodes-le, links-le, ends-within, ends-differ, capacity-le}
 use Rattle.network.specs.declared.Network.{Network}
 use Rattle.network_file.specs.Number.{readNumber, numberBytes}
-use Rattle.network_file.specs.Reading.{nodesRow, linksRow, endRow, otherEndRow, capacityRow, taken, linkAt, stopped, going, unread, withLink, readLink, after, readLinks, ended, readAll, readFile}
+use Rattle.network_file.specs.Reading.{nodesRow, linksRow, endRow, otherEndRow, capacityRow, aNumber, taken, linkAt, stopped, going, unread, withLink, readLink, after, readLinks, ended, readAll, readFile}
 use Rattle.network_file.specs.Writing.{linkBytes, fileOf}
 use Rattle.network_file.specs.NumberLaws.{read-written-number}
 use Rattle.network_file.specs.declared.Progress.{Progress}
@@ -25,7 +25,7 @@ use Rattle.network_file.specs.declared.Link.{Link}
 
 -- ---- a number that was written at a place is taken there
 takes : (s front : List ℕ) (v : ℕ) (back : List ℕ) (place : ℕ) (row : ℕ → ℕ) → s ≡ front ++ (numberBytes v ++ back) → length front ≡ place → v < 128 ^ maxGroups
-    → row v ≡ 0 → taken s place row ≡ record { number = 0; value = v; next = place + length (numberBytes v) }
+    → row v ≡ 0 → taken s place row ≡ aNumber v (place + length (numberBytes v))
 unfolding taken
 takes s front v back place row e z l r =
     rw (ap (drop place) e ∙ drop-at front (numberBytes v ++ back) place z, read-written-number v back l, r)

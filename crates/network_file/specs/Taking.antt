@@ -12,7 +12,7 @@ use borrow.Author.Tests.{ltb-true, ltb-false, eqb-true, eqb-false}
 use Rattle.network.specs.Checks.{check, accepted}
 use Rattle.network.specs.Limits.{maxNodes, maxLinks, maxCapacity, maxGroups}
 use Rattle.network_file.specs.Number.{readNumber, numberOf, valueIn, sizeIn, numberBytes, Bytes}
-use Rattle.network_file.specs.Reading.{nodesRow, linksRow, endRow, otherEndRow, capacityRow, taken, taking}
+use Rattle.network_file.specs.Reading.{nodesRow, linksRow, endRow, otherEndRow, capacityRow, noNumber, aNumber, taken, taking}
 use Rattle.network_file.specs.Faults.{Stands, Field, nodes, links, end, otherEnd, capacity, number, Wrong, four, five, six, six-later, seven, eight, Bad, one, two, three, by-row}
 use Rattle.network_file.specs.NumberLaws.{Seen, sees-one, sees-two, sees-three, sees-value, seen, again}
 use Rattle.network_file.specs.declared.Number.{Number}
@@ -103,18 +103,18 @@ row-told (capacity n left) v = go (ltb maxCapacity v) refl
 
 -- ---- 1 to 3, then its row
 pub data Took (s : List ℕ) (place : ℕ) (x : Field) : Taken → Type 0 where
-  stops : {e : ℕ} → Bad s place (number x) (suc e) → Took s place x (record { number = suc e; value = 0; next = place })
-  goes : {v size : ℕ} → Stands s place v size → Passes x v → Took s place x (record { number = 0; value = v; next = place + size })
+  stops : {e : ℕ} → Bad s place (number x) (suc e) → Took s place x (noNumber (suc e) place)
+  goes : {v size : ℕ} → Stands s place v size → Passes x v → Took s place x (aNumber v (place + size))
 
 module _ (s : List ℕ) (place : ℕ) (x : Field) where
   by-its-row : {v size e : ℕ} → Stands s place v size → RowTold x v e
-      → Took s place x (accepted e (record { number = 0; value = v; next = place + size }) (λ e. record { number = e; value = 0; next = place }))
+      → Took s place x (accepted e (aNumber v (place + size)) (λ e. noNumber e place))
   by-its-row st (passes p) = goes st p
   by-its-row st (wrong w) = stops (by-row st w)
 
   by-number : {r : Number} → Seen maxGroups (drop place s) r
       → Took s place x (accepted (check (ltb 0 (numberOf r)) (numberOf r) (rowOf x (valueIn r)))
-      (record { number = 0; value = valueIn r; next = place + sizeIn r }) (λ e. record { number = e; value = 0; next = place }))
+      (aNumber (valueIn r) (place + sizeIn r)) (λ e. noNumber e place))
   by-number (sees-one h) = stops (one h)
   by-number (sees-two h) = stops (two h)
   by-number (sees-three h) = stops (three h)
