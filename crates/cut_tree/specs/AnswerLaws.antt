@@ -1,16 +1,15 @@
 -- The answer of a pair call from the rule's tree: a minimum cut between the two nodes, with its value.
-use mathlib.Core.Path.{_≡_, refl, sym, ap, ap₂, _∙_}
+use mathlib.Core.Path.{_≡_, refl, ap₂, _∙_}
 use mathlib.Core.Logic.{_≢_}
 use mathlib.Core.Bool.{Bool, true, false, not}
 use Prim.Native.Nat.{ℕ, _≤_, _<_}
 use native.Mathlib.Omega.{arith}
 use Rattle.min_cut.specs.Bools.{bool1}
-use Rattle.min_cut.specs.Cut.{Net, Side, differ, cutValue, complement, Separates, MinCut, Within}
+use Rattle.min_cut.specs.Cut.{Net, Side, differ, cutValue, complement, Within}
 use Rattle.min_cut.specs.CutLaws.{cutValue-ext, cutValue-complement}
 use Rattle.min_cut.specs.Word.{holds, word}
 use Rattle.min_cut.specs.WordLaws.{word-holds}
 use Rattle.min_cut.specs.LeastCut.{leastMinCut-minimum}
-use Rattle.network.specs.Basics.{at}
 use Rattle.network.specs.Limits.{maxNodes}
 use Rattle.network.specs.Network.{WithinLimits, graph, valueOf, leastSide, minCutValue}
 use Rattle.network.specs.NetworkLaws.{nodes-le, ends-within}
@@ -40,7 +39,8 @@ as-s G n w X s = cutValue-ext G n w (holds (word n Y)) Y (word-holds n Y) ∙ go
     go : (b : Bool) → cutValue G (λ i. not (differ (X i) b)) ≡ cutValue G X
     go true = cutValue-ext G n w (λ i. not (differ (X i) true)) X (λ i l. bool1 (λ x. not (differ x true) ≡ x) (refl, refl) (X i))
     go false =
-        cutValue-ext G n w (λ i. not (differ (X i) false)) (complement X) (λ i l. bool1 (λ x. not (differ x false) ≡ not x) (refl, refl) (X i)) ∙ cutValue-complement G X
+        cutValue-ext G n w (λ i. not (differ (X i) false)) (complement X) (λ i l. bool1 (λ x. not (differ x false) ≡ not x) (refl, refl) (X i))
+        ∙ cutValue-complement G X
 
 module _ (net : Network) (w : WithinLimits net) (s t : ℕ) (sl : s < net .nodes) (tl : t < net .nodes) (d : s ≢ t) where
   abbrev n : ℕ

@@ -2,7 +2,7 @@
 use mathlib.Core.Path.{_≡_, refl, sym, ap, _∙_}
 use mathlib.Core.Logic.{_≢_}
 use mathlib.Core.Bool.{Bool, true, false, not}
-use Prim.Native.Nat.{ℕ, zero, suc, _+_, _-_, _≤_, _<_}
+use Prim.Native.Nat.{ℕ, suc, _-_, _≤_, _<_}
 use native.Mathlib.Omega.{arith}
 use Rattle.min_cut.specs.Cut.{Net, Side, cutValue, complement, Separates, MinCut, Within}
 use Rattle.min_cut.specs.CutLaws.{cutValue-ext, cutValue-complement}
@@ -18,7 +18,7 @@ use Rattle.cut_tree.specs.Depth.{climb-ends}
 use Rattle.cut_tree.specs.RuleTree.{Placed, rule-tree}
 use Rattle.cut_tree.specs.PairLaws.{under-is, under-value, under-minimum, lightest-path, lightest-separates, lightest-node, lightest-value, lightest-least}
 use Rattle.cut_tree.specs.TreeValues.{value-le-tree, subtree-value}
-use Rattle.cut_tree.specs.MaxFlowMinCut.{maximum-flow}
+use Rattle.min_cut.specs.StrongDuality.{max-flow-min-cut}
 use Rattle.cut_tree.specs.declared.Tree.{Tree}
 
 -- a value that a side between s and t has, and no side undercuts, is the value of a minimum cut and of a maximum flow
@@ -26,7 +26,7 @@ flow-value : (G : Net) (n : ℕ) → Within G n → (s t v : ℕ) → s < n → 
     → ((W : Side) → Separates W s t → v ≤ cutValue G W) → FlowValue G n s t v
 flow-value G n w s t v sl tl d X i o e least =
     let m : MinCut G s t X = record { inside = i; outside = o; least = λ W wi wo. omega (arith, least W (wi ∙ sym (ap not wo))) } in
-    rw (← e) (record { flow = maximum-flow G n w s t sl tl d X m; cut = (X, m, refl) })
+    rw (← e) (record { flow = max-flow-min-cut G n s t w sl tl d X m; cut = (X, m, refl) })
 
 -- so for a side that separates them, either way round
 separating-value : (G : Net) (n : ℕ) → Within G n → (s t v : ℕ) → s < n → t < n → s ≢ t → (X : Side) → Separates X s t → cutValue G X ≡ v

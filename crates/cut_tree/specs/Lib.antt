@@ -5,6 +5,10 @@ pub mod Climb
 pub mod ClimbLaws
 pub mod QueryLaws
 pub mod SideLaws
+pub mod StepLaws
+pub mod Taking
+pub mod TakingLaws
+pub mod Rebuilding
 pub mod RuleLaws
 pub mod KeepLaws
 pub mod RebuildLaws
@@ -12,9 +16,10 @@ pub mod RuleTree
 pub mod Depth
 pub mod RuleShape
 pub mod Definition1
+pub mod MemberLaws
 pub mod PathLaws
 pub mod PairLaws
-pub mod MaxFlowMinCut
 pub mod TreeValues
 pub mod Definition1Proof
 pub mod AnswerLaws
+pub mod Examples

@@ -1,75 +1,19 @@
 -- Laws of tree paths: an edge lies on the path between two nodes where its subtree holds exactly one of them; the lightest edge of a path.
 use mathlib.Core.Path.{_≡_, refl, sym, ap, ap₂, _∙_}
-use mathlib.Core.Logic.{_⊎_, inl, inr, ⊎-elim}
+use mathlib.Core.Logic.{⊎-elim}
 use mathlib.Core.Bool.{Bool, true, false, not, _&&_, _||_, true≢false}
-use mathlib.Core.List.{List, [], _∷_, _++_, reverse, reverseAux}
-use Prim.Native.Nat.{ℕ, zero, suc, _≤_, _<_}
+use mathlib.Core.List.{List, [], _∷_, reverse}
+use Prim.Native.Nat.{ℕ, _≤_}
 use native.Mathlib.Omega.{arith}
-use native.Mathlib.Decide.{ℕ-discrete}
-use lib.Dec.{eqb, ltb}
-use borrow.Author.Tests.{eqb-true, eq-eqb, ne-eqb, ltb-true, ltb-false}
+use lib.Dec.{ltb}
+use borrow.Author.Tests.{ltb-true, ltb-false}
 use Rattle.min_cut.specs.Cut.{differ}
 use Rattle.network.specs.Basics.{pick, at}
 use Rattle.cut_tree.specs.Path.{maxClimb, climb, among, without, path, lightest, under}
 use Rattle.cut_tree.specs.Definition1.{Lightest}
+use Rattle.cut_tree.specs.MemberLaws.{no-member, among-append, among-back, among-without, among-head, among-later, among-cases}
 
--- ---- members of lists
-among-append : (v : ℕ) (xs ys : List ℕ) → among v (xs ++ ys) ≡ (among v xs || among v ys)
-unfolding among
-among-append v [] ys = refl
-among-append v (x ∷ xs) ys = go (eqb v x) (among-append v xs ys)
-  where
-    go : (b : Bool) → among v (xs ++ ys) ≡ (among v xs || among v ys) → pick b true (among v (xs ++ ys)) ≡ (pick b true (among v xs) || among v ys)
-    go true e = refl
-    go false e = e
-
-among-back : (v : ℕ) (xs ys : List ℕ) → among v (reverseAux xs ys) ≡ (among v xs || among v ys)
-unfolding among
-among-back v [] ys = refl
-among-back v (x ∷ xs) ys = among-back v xs (x ∷ ys) ∙ go (eqb v x) (among v xs)
-  where
-    go : (b m : Bool) → (m || pick b true (among v ys)) ≡ (pick b true m || among v ys)
-    go true true = refl
-    go true false = refl
-    go false m = refl
-
-among-without : (v : ℕ) (ys xs : List ℕ) → among v (without ys xs) ≡ (among v xs && not (among v ys))
-unfolding among without
-among-without v ys [] = refl
-among-without v ys (x ∷ xs) = go (ℕ-discrete v x) (among x ys) refl (among-without v ys xs)
-  where
-    and-no : (b : Bool) → (b && false) ≡ false
-    and-no true = refl
-    and-no false = refl
-
-    go : Dec (v ≡ x) → (m : Bool) → among x ys ≡ m → among v (without ys xs) ≡ (among v xs && not (among v ys))
-        → among v (pick m (without ys xs) (x ∷ without ys xs)) ≡ (pick (eqb v x) true (among v xs) && not (among v ys))
-    go (yes e) true m ih = rw (eq-eqb v x e, ih, e, m) (and-no (among x xs))
-    go (yes e) false m ih = rw (eq-eqb v x e, e, m)
-    go (no n) true m ih = rw (ne-eqb v x n) ih
-    go (no n) false m ih = rw (ne-eqb v x n) ih
-
-among-head : (v : ℕ) (xs : List ℕ) → among v (v ∷ xs) ≡ true
-unfolding among
-among-head v xs = rw (eq-eqb v v refl)
-
-among-later : (u v : ℕ) (xs : List ℕ) → among u xs ≡ true → among u (v ∷ xs) ≡ true
-unfolding among
-among-later u v xs e = go (eqb u v)
-  where
-    go : (b : Bool) → pick b true (among u xs) ≡ true
-    go true = refl
-    go false = e
-
-among-cases : (u v : ℕ) (xs : List ℕ) → among u (v ∷ xs) ≡ true → (u ≡ v) ⊎ (among u xs ≡ true)
-unfolding among
-among-cases u v xs = go (eqb u v) refl
-  where
-    go : (b : Bool) → eqb u v ≡ b → pick b true (among u xs) ≡ true → (u ≡ v) ⊎ (among u xs ≡ true)
-    go true e h = inl (eqb-true u v e)
-    go false e h = inr h
-
--- ---- the path: the edges whose subtree holds exactly one of s and t
+-- the edges whose subtree holds exactly one of s and t
 pub on-path : (parent : List ℕ) (s t x : ℕ) → among x (path parent s t) ≡ differ (under parent x s) (under parent x t)
 unfolding path
 on-path parent s t x =
@@ -86,26 +30,32 @@ on-path parent s t x =
     table false false = unfold among in refl
 
 -- ---- the lightest
-lightest-of : (w : List ℕ) (v : ℕ) (xs : List ℕ) → Lightest w (v ∷ xs) (lightest w v xs)
-unfolding lightest among
-lightest-of w v [] = record { on-path = among-head v []; least = λ y e. ⊎-elim (λ q. rw q (omega arith)) (λ q. absurd (true≢false (sym q))) (among-cases y v [] e) }
-lightest-of w v (x ∷ xs) = go (ltb (at w x) (at w v)) refl (lightest-of w (pick (ltb (at w x) (at w v)) x v) xs)
+-- u, the lighter of v and x, stands for both
+stands-for : (w : List ℕ) (v x u y : ℕ) (xs : List ℕ) → among u (v ∷ x ∷ xs) ≡ true → at w u ≤ at w v → at w u ≤ at w x → Lightest w (u ∷ xs) y → Lightest w (v ∷ x ∷ xs) y
+stands-for w v x u y xs e lv lx h =
+    record {
+      on-path = ⊎-elim (λ q. rw q e) (λ q. among-later y v (x ∷ xs) (among-later y x xs q)) (among-cases y u xs (h .on-path));
+      least = λ z m. ⊎-elim (λ q. rw q (omega (arith, low))) (later z) (among-cases z v (x ∷ xs) m);
+    }
   where
-    go : (b : Bool) → ltb (at w x) (at w v) ≡ b → Lightest w (pick b x v ∷ xs) (lightest w (pick b x v) xs) → Lightest w (v ∷ x ∷ xs) (lightest w (pick b x v) xs)
-    go true e h =
-        record {
-          on-path = among-later _ v (x ∷ xs) (h .on-path);
-          least = λ y m. ⊎-elim (λ q. rw q (omega (arith, ltb-true (at w x) (at w v) e, h .least x (among-head x xs)))) (λ q. h .least y q) (among-cases y v (x ∷ xs) m);
-        }
-    go false e h =
-        record {
-          on-path = ⊎-elim (λ q. rw q (among-head v (x ∷ xs))) (λ q. among-later _ v (x ∷ xs) (among-later _ x xs q)) (among-cases (lightest w v xs) v xs (h .on-path));
-          least = λ y m. ⊎-elim (λ q. rw q (h .least v (among-head v xs))) (λ q. ⊎-elim (λ z. rw z (omega (arith, ltb-false (at w x) (at w v) e, h .least v (among-head v xs)))) (λ z. h .least y (among-later y v xs z)) (among-cases y x xs q)) (among-cases y v (x ∷ xs) m);
-        }
+    low : at w y ≤ at w u
+    low = h .least u (among-head u xs)
+
+    later : (z : ℕ) → among z (x ∷ xs) ≡ true → at w y ≤ at w z
+    later z m = ⊎-elim (λ q. rw q (omega (arith, low))) (λ q. h .least z (among-later z u xs q)) (among-cases z x xs m)
+
+lightest-of : (w : List ℕ) (v : ℕ) (xs : List ℕ) → Lightest w (v ∷ xs) (lightest w v xs)
+unfolding lightest
+lightest-of w v [] = record { on-path = among-head v []; least = λ y e. ⊎-elim (λ q. rw q (omega arith)) (λ q. absurd (no-member y q)) (among-cases y v [] e) }
+lightest-of w v (x ∷ xs) = go (ltb (at w x) (at w v)) refl (λ u. lightest-of w u xs)
+  where
+    go : (b : Bool) → ltb (at w x) (at w v) ≡ b → ((u : ℕ) → Lightest w (u ∷ xs) (lightest w u xs)) → Lightest w (v ∷ x ∷ xs) (lightest w (pick b x v) xs)
+    go true e h = stands-for w v x x (lightest w x xs) xs (among-later x v (x ∷ xs) (among-head x xs)) (omega (arith, ltb-true (at w x) (at w v) e)) (omega arith) (h x)
+    go false e h = stands-for w v x v (lightest w v xs) xs (among-head v (x ∷ xs)) (omega arith) (ltb-false (at w x) (at w v) e) (h v)
 
 -- of a list with a member
 pub lightest-among : (w xs : List ℕ) (x : ℕ) → among x xs ≡ true → Lightest w xs (lightest w (at xs 0) xs)
-lightest-among w [] x e = absurd (true≢false (sym (unfold among in e)))
+lightest-among w [] x e = absurd (no-member x e)
 lightest-among w (z ∷ zs) x e =
     let h = lightest-of w z (z ∷ zs) in
     record {

@@ -1,10 +1,8 @@
 -- A rebuild is the rule on the new capacities: kept steps are those that would be worked out. Its count, and the first build as a rebuild.
 use mathlib.Core.Path.{_≡_, refl, sym, ap, _∙_}
-use mathlib.Core.Logic.{_≢_}
 use mathlib.Core.Bool.{Bool, true, false, _&&_}
-use Prim.Native.Nat.{ℕ, zero, suc, _+_, _-_, _≤_, _<_}
+use Prim.Native.Nat.{ℕ, zero, suc, _-_, _≤_, _<_}
 use native.Mathlib.Omega.{arith}
-use lib.ListN.{set}
 use lib.Seq.{set-getD}
 use lib.Dec.{eqb}
 use borrow.Author.Tests.{eqb-true, ne-eqb}
@@ -17,7 +15,7 @@ use Rattle.network.specs.NetworkLaws.{nodes-pos, nodes-le}
 use Rattle.network.specs.declared.Network.{Network}
 use Rattle.cut_tree.specs.Rule.{stepped, ruleBy, leastCut, rule}
 use Rattle.cut_tree.specs.Rebuild.{survives, kept, keptOrLeast, rebuilt, notKept}
-use Rattle.cut_tree.specs.RuleLaws.{Recorded, rule-recorded, SameCut, SameRule, rule-same, rule-ext, count-is}
+use Rattle.cut_tree.specs.RuleLaws.{rule-recorded, SameCut, SameRule, rule-same, rule-ext, count-is}
 use Rattle.cut_tree.specs.KeepLaws.{kept-least}
 use Rattle.cut_tree.specs.declared.Steps.{Steps}
 use Rattle.cut_tree.specs.declared.StepCut.{StepCut}

@@ -3,7 +3,7 @@ use mathlib.Core.Path.{_≡_, refl, sym, ap, _∙_}
 use mathlib.Core.Logic.{_≢_}
 use mathlib.Core.Bool.{Bool, true, false, _&&_}
 use mathlib.Core.List.{List, [], _∷_}
-use Prim.Native.Nat.{ℕ, zero, suc, _+_, _-_, _≤_, _<_}
+use Prim.Native.Nat.{ℕ, zero, suc, _+_, _≤_, _<_}
 use native.Mathlib.Omega.{arith}
 use native.Mathlib.Decide.{ℕ-discrete}
 use lib.ListN.{length, set, replicate, length-set, length-replicate}
@@ -99,7 +99,8 @@ parents-le cut (suc k) x =
     let b = ruleBy cut k in
     let t = at (b .tree .parent) (suc k) in
     let X = cut (suc k) t in
-    placed-le (suc k) (holds (X .side) (at (b .tree .parent) t)) (b .tree) (suc k) t (X .side) (X .value) (omega arith) (omega (arith, parents-le cut k (suc k))) (λ x. omega (arith, parents-le cut k x)) x
+    let below = parents-le cut k in
+    placed-le (suc k) (holds (X .side) (at (b .tree .parent) t)) (b .tree) (suc k) t (X .side) (X .value) (omega arith) (omega (arith, below (suc k))) (λ x. omega (arith, below x)) x
 
 -- ---- what step s records: a pivot below s, and the cut of s and that pivot
 pub record Recorded (cut : ℕ → ℕ → StepCut) (steps : Steps) (s : ℕ) : Type 0 where
@@ -153,7 +154,7 @@ count-is cut (suc k) l =
     let t = at (b .tree .parent) (suc k) in
     let now : at (set (b .steps .pivot) (suc k) t) (suc k) ≡ t = getD-set-same (b .steps .pivot) (suc k) t 0 (omega (arith, rule-long cut k .pivot)) in
     let old = sum-ext k (λ i. cut (suc i) (at (b .steps .pivot) (suc i)) .anew) (λ i. cut (suc i) (at (set (b .steps .pivot) (suc k) t) (suc i)) .anew)
-        (λ i il. ap (λ v. cut (suc i) v .anew) (sym (getD-set-other (b .steps .pivot) (suc k) (suc i) t 0 (λ q. omega arith)))) in
+    (λ i il. ap (λ v. cut (suc i) v .anew) (sym (getD-set-other (b .steps .pivot) (suc k) (suc i) t 0 (λ q. omega arith)))) in
     omega (arith, count-is cut k (omega arith), old, ap (λ v. cut (suc k) v .anew) now)
 
 -- ---- equal cuts give equal trees and steps
@@ -179,7 +180,11 @@ rule-same cut other (suc k) h =
     let ev = x .value ∙ ap (λ v. other (suc k) v .value) et in
     record {
       tree = λ i. placed (holds (es i) (at (ih .tree i .parent) (et i))) (ih .tree i) (suc k) (et i) (es i) (ev i);
-      steps = λ i. record { pivot = set (ih .steps i .pivot) (suc k) (et i); side = set (ih .steps i .side) (suc k) (es i); value = set (ih .steps i .value) (suc k) (ev i) };
+      steps = λ i. record {
+        pivot = set (ih .steps i .pivot) (suc k) (et i);
+        side = set (ih .steps i .side) (suc k) (es i);
+        value = set (ih .steps i .value) (suc k) (ev i);
+      };
     }
 
 pub rule-ext : (cut other : ℕ → ℕ → StepCut) (k : ℕ) → ((s t : ℕ) → t < s → s ≤ k → cut s t ≡ other s t) → ruleBy cut k ≡ ruleBy other k

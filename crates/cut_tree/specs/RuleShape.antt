@@ -2,13 +2,13 @@
 use mathlib.Core.Path.{_≡_, refl, sym, ap, _∙_}
 use mathlib.Core.Logic.{_≢_}
 use mathlib.Core.Bool.{Bool, true, false, true≢false}
-use Prim.Native.Nat.{ℕ, zero, suc, _+_, _-_, _^_, _≤_, _<_}
+use mathlib.Core.List.{List}
+use Prim.Native.Nat.{ℕ, zero, suc, _-_, _^_, _≤_, _<_}
 use native.Mathlib.Omega.{arith}
 use native.Mathlib.Decide.{ℕ-discrete}
 use lib.ListN.{length, set}
 use lib.Seq.{getD-set-other}
 use lib.Pow.{pow-mono}
-use Rattle.min_cut.specs.Cut.{MinCut}
 use Rattle.min_cut.specs.Word.{holds}
 use Rattle.min_cut.specs.WordLaws.{holds-out}
 use Rattle.network.specs.Basics.{at}
@@ -19,7 +19,7 @@ use Rattle.network.specs.NetworkLaws.{nodes-pos, nodes-le, value-le}
 use Rattle.network.specs.declared.Network.{Network}
 use Rattle.cut_tree.specs.Rule.{moved, placed, stepped, ruleBy, leastCut, rule}
 use Rattle.cut_tree.specs.Path.{maxClimb, reaches}
-use Rattle.cut_tree.specs.RuleLaws.{Long, rule-long, parents-le, Recorded, rule-recorded}
+use Rattle.cut_tree.specs.RuleLaws.{Long, rule-long, parents-le, rule-recorded}
 use Rattle.cut_tree.specs.RuleTree.{moved-all, least-minimum, least-lt, steps-tree, rule-tree}
 use Rattle.cut_tree.specs.Depth.{climb-ends}
 use Rattle.cut_tree.specs.declared.Tree.{Tree}
@@ -54,10 +54,17 @@ pub record RuleShape (net : Network) : Type 0 where
 -- ---- what placing s leaves as it is
 parent-out : (b : Bool) (tree : Tree) (s t X w x : ℕ) → length (tree .parent) ≡ maxNodes → X < 2 ^ maxNodes → holds X x ≡ false → x ≢ s → x ≢ t
     → at (placed b tree s t X w .parent) x ≡ at (tree .parent) x
-parent-out false tree s t X w x l xl e ns nt = getD-set-other (moved X s t 0 (tree .parent)) s x t 0 ns ∙ moved-all X s t (tree .parent) l xl x ∙ rw e
-parent-out true tree s t X w x l xl e ns nt =
-    let q = at (tree .parent) t in
-    getD-set-other (set (moved X s t 0 (tree .parent)) s q) t x s 0 nt ∙ getD-set-other (moved X s t 0 (tree .parent)) s x q 0 ns ∙ moved-all X s t (tree .parent) l xl x ∙ rw e
+parent-out b tree s t X w x l xl e ns nt = go b
+  where
+    ms : List ℕ
+    ms = moved X s t 0 (tree .parent)
+
+    stays : at ms x ≡ at (tree .parent) x
+    stays = moved-all X s t (tree .parent) l xl x ∙ rw e
+
+    go : (b : Bool) → at (placed b tree s t X w .parent) x ≡ at (tree .parent) x
+    go false = getD-set-other ms s x t 0 ns ∙ stays
+    go true = let q = at (tree .parent) t in getD-set-other (set ms s q) t x s 0 nt ∙ getD-set-other ms s x q 0 ns ∙ stays
 
 weight-out : (b : Bool) (tree : Tree) (s t X w x : ℕ) → x ≢ s → (b ≡ true → x ≢ t) → at (placed b tree s t X w .weight) x ≡ at (tree .weight) x
 weight-out false tree s t X w x ns nt = getD-set-other (tree .weight) s x w 0 ns
@@ -79,12 +86,14 @@ module _ (net : Network) (e : networkFits net ≡ true) where
       let tl = pivot-lt k in
       let X = leastSide net (suc k) t in
       let Xl = least-lt net e (suc k) t l tl in
+      let fits : X < 2 ^ maxNodes = omega (arith, Xl, pow-mono {i = net .nodes} {j = maxNodes} (nodes-le net e)) in
+      let long = rule-long (leastCut net) k .parent in
       let w = minCutValue net (suc k) t in
       let up = holds X (at (b .tree .parent) t) in
       let ns : x ≢ suc k = omega arith in
       let nt : x ≢ t = omega arith in
       record {
-        parent = parent-out up (b .tree) (suc k) t X w x (rule-long (leastCut net) k .parent) (omega (arith, pow-mono {i = net .nodes} {j = maxNodes} (nodes-le net e))) (holds-out (net .nodes) X x Xl xl) ns nt ∙ ih .parent;
+        parent = parent-out up (b .tree) (suc k) t X w x long fits (holds-out (net .nodes) X x Xl xl) ns nt ∙ ih .parent;
         weight = weight-out up (b .tree) (suc k) t X w x ns (λ u. nt) ∙ ih .weight;
         pivot = getD-set-other (b .steps .pivot) (suc k) x t 0 ns ∙ ih .pivot;
         side = getD-set-other (b .steps .side) (suc k) x X 0 ns ∙ ih .side;
@@ -104,7 +113,7 @@ module _ (net : Network) (e : networkFits net ≡ true) where
       let up = holds X (at (b .tree .parent) t) in
       let ns : 0 ≢ suc k = omega arith in
       let nt : up ≡ true → 0 ≢ t =
-          λ u q. true≢false (sym u ∙ ap (λ v. holds X (at (b .tree .parent) v)) (sym q) ∙ ap (holds X) (ih .parent ∙ q) ∙ least-minimum net e (suc k) t l (pivot-lt k) .outside) in
+      λ u q. true≢false (sym u ∙ ap (λ v. holds X (at (b .tree .parent) v)) (sym q) ∙ ap (holds X) (ih .parent ∙ q) ∙ least-minimum net e (suc k) t l (pivot-lt k) .outside) in
       record {
         parent = steps-tree net e (suc k) l .2 .home;
         weight = weight-out up (b .tree) (suc k) t X w 0 ns nt ∙ ih .weight;
@@ -151,6 +160,7 @@ module _ (net : Network) (e : networkFits net ≡ true) where
         unused = λ x l. unused-blank x l (net .nodes - 1) last-lt;
         parent = T .2 .done;
         weight = weight-le;
-        climbs = λ i l. climb-ends (graph net) (net .nodes) (rule net .tree .parent) (at (rule net .tree .weight)) (T .0) (T .1) (T .2) maxClimb i (omega (arith, nodes-le net e)) l;
+        climbs = λ i l.
+            climb-ends (graph net) (net .nodes) (rule net .tree .parent) (at (rule net .tree .weight)) (T .0) (T .1) (T .2) maxClimb i (omega (arith, nodes-le net e)) l;
         step = step-shape;
       }

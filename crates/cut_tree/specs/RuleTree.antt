@@ -3,7 +3,7 @@ use mathlib.Core.Path.{_≡_, refl, sym, ap, subst, _∙_, fun-ext}
 use mathlib.Core.Logic.{_≢_}
 use mathlib.Core.Bool.{Bool, true, false, _&&_}
 use mathlib.Core.List.{List}
-use Prim.Native.Nat.{ℕ, zero, suc, _+_, _-_, _^_, _≤_, _<_}
+use Prim.Native.Nat.{ℕ, zero, suc, _+_, _-_, _^_, _<_}
 use native.Mathlib.Omega.{arith}
 use native.Mathlib.Decide.{decLt}
 use lib.ListN.{length, set, length-set, List·getD-eq-default}
@@ -14,7 +14,7 @@ use Rattle.min_cut.specs.Cut.{Net, cutValue, MinCut}
 use Rattle.min_cut.specs.Word.{holds}
 use Rattle.min_cut.specs.WordLaws.{holds-out}
 use Rattle.min_cut.specs.LeastCut.{leastMinCut-minimum, leastMinCut-lt}
-use Rattle.min_cut.specs.GusfieldTree.{Tree as TreeOf, Cut-tree, Goes, goes-by, start}
+use Rattle.min_cut.specs.GusfieldTree.{Cut-tree, Goes, goes-by, start}
 use Rattle.min_cut.specs.GusfieldStep.{step, step-up}
 use Rattle.network.specs.Basics.{pick, at}
 use Rattle.network.specs.BasicsLaws.{zeros-at}
@@ -23,17 +23,16 @@ use Rattle.network.specs.Network.{networkFits, graph, leastSide}
 use Rattle.network.specs.NetworkLaws.{nodes-pos, nodes-le, ends-within}
 use Rattle.network.specs.declared.Network.{Network}
 use Rattle.cut_tree.specs.Rule.{moved, placed, stepped, ruleBy, leastCut, rule, noTree}
-use Rattle.cut_tree.specs.RuleLaws.{length-moved, moved-at, Long, rule-long, parents-le}
+use Rattle.cut_tree.specs.RuleLaws.{length-moved, moved-at, rule-long, parents-le}
 use Rattle.cut_tree.specs.declared.Tree.{Tree}
-use Rattle.cut_tree.specs.declared.StepCut.{StepCut}
-use Rattle.cut_tree.specs.declared.Built.{Built}
 
 -- the tree of the nodes below i, as the theory of cuts has it
 abbrev pub Placed : Net → ℕ → Tree → Type 0
 Placed G i tree = Cut-tree G i (at (tree .parent)) (at (tree .weight))
 
 -- where every node goes, those beyond the array too: a word has no bit there
-pub moved-all : (X s t : ℕ) (ps : List ℕ) → length ps ≡ maxNodes → X < 2 ^ maxNodes → (x : ℕ) → at (moved X s t 0 ps) x ≡ pick (holds X x && eqb (at ps x) t) s (at ps x)
+pub moved-all : (X s t : ℕ) (ps : List ℕ) → length ps ≡ maxNodes → X < 2 ^ maxNodes → (x : ℕ)
+    → at (moved X s t 0 ps) x ≡ pick (holds X x && eqb (at ps x) t) s (at ps x)
 moved-all X s t ps e l x = go (decLt x maxNodes)
   where
     go : Dec (x < maxNodes) → at (moved X s t 0 ps) x ≡ pick (holds X x && eqb (at ps x) t) s (at ps x)

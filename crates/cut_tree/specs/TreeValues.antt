@@ -1,11 +1,10 @@
 -- The tree as a network: no side has a larger value in the network than in the tree, and a subtree has its edge's weight in the tree.
 use mathlib.Core.Path.{_≡_, refl, sym, ap, subst, _∙_}
-use mathlib.Core.Logic.{_≢_}
 use mathlib.Core.Bool.{Bool, true, false, not, true≢false}
 use Prim.Native.Nat.{ℕ, zero, suc, _+_, _-_, _≤_, _<_}
 use native.Mathlib.Omega.{arith}
 use Rattle.min_cut.specs.Sum.{sum, sum-ext, sum-zero, sum-le, sum-term, sum-single}
-use Rattle.min_cut.specs.Cut.{Net, Side, crossing, cutValue, Separates, Within}
+use Rattle.min_cut.specs.Cut.{Net, Side, crossing, cutValue, Within}
 use Rattle.min_cut.specs.GusfieldPairs.{Edge, edge}
 use Rattle.network.specs.Basics.{at}
 use Rattle.cut_tree.specs.Definition1.{treeNet}
@@ -61,14 +60,14 @@ module _ (G : Net) (n : ℕ) (w : Within G n) (tree : Tree) (T : Placed G n tree
       over e =
           let r = T .1 in
           let d : Edge G n (at (tree .parent)) (at (tree .weight)) (T .0) r (T .2) X u v =
-              edge G n (at (tree .parent)) (at (tree .weight)) (T .0) r (T .2) X (suc (r u + r v)) u v (omega arith) (w k l .0) (w k l .1) e in
+          edge G n (at (tree .parent)) (at (tree .weight)) (T .0) r (T .2) X (suc (r u + r v)) u v (omega arith) (w k l .0) (w k l .1) e in
           let x : ℕ = d .0 in
           let xp : 0 < x = d .1 in
           let xl : x < n = d .2 in
           let q : x ≡ suc (x - 1) = omega arith in
           let f : share X (x - 1) k ≡ G .c k =
-              subst (λ y. crossing (X y) (X (at (tree .parent) y)) (crossing (T .0 y u) (T .0 y v) (G .c k)) ≡ G .c k) q
-              (crossing-apart (crossing (T .0 x u) (T .0 x v) (G .c k)) (X x) (X (at (tree .parent) x)) (d .4) ∙ crossing-apart (G .c k) (T .0 x u) (T .0 x v) (d .3)) in
+          subst (λ y. crossing (X y) (X (at (tree .parent) y)) (crossing (T .0 y u) (T .0 y v) (G .c k)) ≡ G .c k) q
+          (crossing-apart (crossing (T .0 x u) (T .0 x v) (G .c k)) (X x) (X (at (tree .parent) x)) (d .4) ∙ crossing-apart (G .c k) (T .0 x u) (T .0 x v) (d .3)) in
           omega (arith, sum-term (n - 1) (λ i. share X i k) (x - 1) (omega arith), f)
 
       go : (a : Bool) → X u ≡ a → (b : Bool) → X v ≡ b → crossing a b (G .c k) ≤ sum (n - 1) (λ i. share X i k)
@@ -99,7 +98,10 @@ module _ (G : Net) (n : ℕ) (w : Within G n) (tree : Tree) (T : Placed G n tree
   subtree-value v p l =
       let q : v ≡ suc (v - 1) = omega arith in
       let m = T .2 .minimum v p l in
-      sum-single (n - 1) (λ k. crossing (T .0 v (suc k)) (T .0 v (at (tree .parent) (suc k))) (at (tree .weight) (suc k))) (v - 1) (omega arith)
+      sum-single (n - 1) (λ k. crosses (suc k)) (v - 1) (omega arith)
       (λ k kl d. crossing-same (at (tree .weight) (suc k)) (T .0 v (suc k)) (T .0 v (at (tree .parent) (suc k))) (T .2 .down v (suc k) p l (omega arith) (omega arith)))
-      ∙ subst (λ y. crossing (T .0 v y) (T .0 v (at (tree .parent) y)) (at (tree .weight) y) ≡ at (tree .weight) v) q
-      (crossing-apart (at (tree .weight) v) (T .0 v v) (T .0 v (at (tree .parent) v)) (m .inside ∙ sym (ap not (m .outside))))
+      ∙ ap crosses (sym q)
+      ∙ crossing-apart (at (tree .weight) v) (T .0 v v) (T .0 v (at (tree .parent) v)) (m .inside ∙ sym (ap not (m .outside)))
+    where
+      crosses : ℕ → ℕ
+      crosses y = crossing (T .0 v y) (T .0 v (at (tree .parent) y)) (at (tree .weight) y)

@@ -1,20 +1,23 @@
 pub mod path;
+mod rebuild;
+mod rule;
 
+use network::MAX_NODES;
 pub use path::MAX_CLIMB;
 pub use path::query;
 pub use path::reaches_root;
 
 // A cut tree: every node's parent, and the weight of the edge between them. Node 0 has parent 0 and weight 0.
 pub struct Tree {
-    pub parent: [u8; 64],
-    pub weight: [u32; 64],
+    pub parent: [u8; MAX_NODES],
+    pub weight: [u32; MAX_NODES],
 }
 
 // The steps that made a tree: for each node from 1 up its pivot, its least minimum cut and that cut's value.
 pub struct Steps {
-    pub pivot: [u8; 64],
-    pub side: [u64; 64],
-    pub value: [u32; 64],
+    pub pivot: [u8; MAX_NODES],
+    pub side: [u64; MAX_NODES],
+    pub value: [u32; MAX_NODES],
 }
 
 // A tree, its steps, and how many of the steps were not kept.

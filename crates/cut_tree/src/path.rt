@@ -1,5 +1,6 @@
 // The pair query (document 01, "Pair, flow, writing"). The path is found by recursion along parents with a count that falls, and so is
 // whether every node reaches node 0.
+use network::MAX_NODES;
 use super::PairAnswer;
 use super::Tree;
 ghost use mathlib.Core.Path.{_≡_};
@@ -15,7 +16,7 @@ ghost use Rattle.cut_tree.specs.Climb.{Pair};
 pub const MAX_CLIMB: usize = 63;
 
 // Whether node i reaches node 0 by at most `left` parents.
-pub fn reaches_root(parent: &[u8; 64], left: usize, i: usize) -> bool
+pub fn reaches_root(parent: &[u8; MAX_NODES], left: usize, i: usize) -> bool
     requires { ⌜ Inside (now parent) i ⌝ }
     ensures { λ r. ⌜ r ≡ reaches (now (parent .entry)) left i ⌝ }
 {
@@ -30,7 +31,7 @@ pub fn reaches_root(parent: &[u8; 64], left: usize, i: usize) -> bool
 }
 
 // The set x with the nodes from i up to node 0, without it.
-fn ancestors(parent: &[u8; 64], left: usize, i: usize, x: u64) -> u64
+fn ancestors(parent: &[u8; MAX_NODES], left: usize, i: usize, x: u64) -> u64
     requires { ⌜ Inside (now parent) i ⌝ }
     ensures { λ r. ⌜ r ≡ addedAll x (climb (now (parent .entry)) left i) ⌝ }
 {
@@ -45,7 +46,7 @@ fn ancestors(parent: &[u8; 64], left: usize, i: usize, x: u64) -> u64
 }
 
 // The lighter of the edges of best and i; best where they are equal, and i where there is no best yet.
-fn lighter(weight: &[u32; 64], best: usize, i: usize) -> usize
+fn lighter(weight: &[u32; MAX_NODES], best: usize, i: usize) -> usize
     requires { ⌜ (best < maxNodes) × (i < maxNodes) ⌝ }
     ensures { λ r. ⌜ r ≡ lighter (now (weight .entry)) best i ⌝ }
 {
@@ -60,8 +61,8 @@ fn lighter(weight: &[u32; 64], best: usize, i: usize) -> usize
 
 // The first of the lightest edges on the way up from i, as far as the set `stop`; best where none is lighter.
 fn lightest_up(
-    parent: &[u8; 64],
-    weight: &[u32; 64],
+    parent: &[u8; MAX_NODES],
+    weight: &[u32; MAX_NODES],
     left: usize,
     i: usize,
     stop: u64,
@@ -85,8 +86,8 @@ fn lightest_up(
 
 // The same on the way down to i: the edges above it come first.
 fn lightest_down(
-    parent: &[u8; 64],
-    weight: &[u32; 64],
+    parent: &[u8; MAX_NODES],
+    weight: &[u32; MAX_NODES],
     left: usize,
     i: usize,
     stop: u64,
@@ -110,7 +111,7 @@ fn lightest_down(
 }
 
 // The node of the lightest edge on the path from s to t, the first of equals met from s.
-fn lightest_on(parent: &[u8; 64], weight: &[u32; 64], s: usize, t: usize) -> usize
+fn lightest_on(parent: &[u8; MAX_NODES], weight: &[u32; MAX_NODES], s: usize, t: usize) -> usize
     requires { ⌜ Pair (now parent) s t ⌝ }
     ensures { λ r. ⌜ r ≡ lightestOn (record { parent = now (parent .entry); weight = now (weight .entry) }) s t ⌝ }
 {
@@ -121,7 +122,7 @@ fn lightest_on(parent: &[u8; 64], weight: &[u32; 64], s: usize, t: usize) -> usi
 }
 
 // Whether the climb from j goes through v. Of the nodes below i that is known: those that do are in x.
-fn climbs_through(parent: &[u8; 64], v: usize, x: u64, i: usize, left: usize, j: usize) -> bool
+fn climbs_through(parent: &[u8; MAX_NODES], v: usize, x: u64, i: usize, left: usize, j: usize) -> bool
     requires { ⌜ Known (now parent) v x i left j ⌝ }
     ensures { λ r. ⌜ r ≡ among v (climb (now (parent .entry)) left j) ⌝ }
 {
@@ -142,7 +143,7 @@ fn climbs_through(parent: &[u8; 64], v: usize, x: u64, i: usize, left: usize, j:
 }
 
 // The subtree of v below i, with i if it is of that subtree.
-fn with_node(parent: &[u8; 64], v: usize, x: u64, i: usize) -> u64
+fn with_node(parent: &[u8; MAX_NODES], v: usize, x: u64, i: usize) -> u64
     requires { ⌜ Known (now parent) v x i 63 i ⌝ }
     ensures { λ r. ⌜ r ≡ addedIf (under (now (parent .entry)) v i) x i ⌝ }
 {
@@ -153,7 +154,7 @@ fn with_node(parent: &[u8; 64], v: usize, x: u64, i: usize) -> u64
 }
 
 // The subtree of v: the nodes that climb through it.
-fn subtree(parent: &[u8; 64], n: usize, v: usize) -> u64
+fn subtree(parent: &[u8; MAX_NODES], n: usize, v: usize) -> u64
     requires { ⌜ Climbs n (now parent) ⌝ }
     ensures { λ r. ⌜ r ≡ word n (under (now (parent .entry)) v) ⌝ }
 {
@@ -167,7 +168,7 @@ fn subtree(parent: &[u8; 64], n: usize, v: usize) -> u64
 }
 
 // The side that holds s once the edge of v is cut.
-fn side_of(parent: &[u8; 64], n: usize, v: usize, s: usize) -> u64
+fn side_of(parent: &[u8; MAX_NODES], n: usize, v: usize, s: usize) -> u64
     requires { ⌜ Climbs n (now parent) × (s < n) ⌝ }
     ensures { λ r. ⌜ r ≡ sideOf (now (parent .entry)) n v s ⌝ }
 {

@@ -11,8 +11,12 @@ pub mod Lawful
 pub mod IntParts
 pub mod OutflowLaws
 pub mod MaxFlow
+pub mod Augment
+pub mod StrongDuality
 pub mod Arcs
 pub mod Uncross
 pub mod GusfieldTree
+pub mod GusfieldUncross
 pub mod GusfieldStep
 pub mod GusfieldPairs
+pub mod Examples

@@ -2,7 +2,7 @@
 use mathlib.Core.Path.{_≡_, refl, sym, ap, subst, _∙_}
 use mathlib.Core.Logic.{_≢_}
 use mathlib.Core.Bool.{Bool, true, false, not}
-use Prim.Native.Nat.{ℕ, zero, suc, _+_, _*_, _≤_, _<_}
+use Prim.Native.Nat.{ℕ, _+_, _*_, _≤_, _<_}
 use native.Mathlib.Omega.{arith}
 use native.Mathlib.Decide.{ℕ-discrete}
 use lib.Dec.{eqb}
@@ -13,7 +13,7 @@ use Rattle.min_cut.specs.Bools.{bool1}
 use Rattle.min_cut.specs.Sum.{sum, sum-single}
 use Rattle.min_cut.specs.Cut.{Net, Side, cutValue, complement, Separates, MinCut, Within}
 use Rattle.min_cut.specs.CutLaws.{cutValue-complement}
-use Rattle.min_cut.specs.Residual.{when, residual, ResidualFlow}
+use Rattle.min_cut.specs.Residual.{when, ResidualFlow}
 use Rattle.min_cut.specs.Lawful.{outflow, Lawful, total, MaximumFlow}
 use Rattle.min_cut.specs.IntParts.{above, under, size-parts, one-part, same-parts, le-parts}
 use Rattle.min_cut.specs.OutflowLaws.{only, outflow-only, outflow-side, sent-le, carries, sent-residual}

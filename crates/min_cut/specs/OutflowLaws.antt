@@ -1,14 +1,14 @@
 -- What a flow sends across a side is what its nodes send out together; it is no more than the side's cut value.
-use mathlib.Core.Path.{_≡_, refl, sym, ap, _∙_, fun-ext}
+use mathlib.Core.Path.{_≡_, refl, fun-ext}
 use mathlib.Core.Logic.{_≢_}
-use mathlib.Core.Bool.{Bool, true, false, not, _&&_, _||_, true≢false}
+use mathlib.Core.Bool.{Bool, true, false, _&&_, _||_, true≢false}
 use Prim.Native.Nat.{ℕ, zero, suc, _+_, _*_, _≤_, _<_}
 use native.Mathlib.Omega.{arith}
 use native.Mathlib.Decide.{ℕ-discrete}
 use lib.Dec.{eqb, ltb}
 use lib.IntN.{ℤ, pos, natAbs, _+ℤ_, _-ℤ_}
 use borrow.Author.Tests.{ltb-true, ltb-false, lt-ltb, le-ltb, eq-eqb, ne-eqb}
-use Rattle.min_cut.specs.Bools.{bool1, bool2, bool4}
+use Rattle.min_cut.specs.Bools.{bool1, bool2}
 use Rattle.min_cut.specs.Sum.{sum, sum-ext, sum-zero, sum-le, sum-eq2, sum-eq3}
 use Rattle.min_cut.specs.Cut.{Net, Side, crossing, cutValue, _∪_, Within}
 use Rattle.min_cut.specs.Residual.{leaving, when, residual}
