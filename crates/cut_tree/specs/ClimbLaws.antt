@@ -1,20 +1,21 @@
 -- Laws of climbs: one for each way through the code, and what a climb to node 0 holds.
 use Prim.Native.Nat.{ℕ, zero, suc, _-_, _≤_, _<_}
-use mathlib.Core.Path.{_≡_, refl, sym, ap, subst, _∙_}
-use mathlib.Core.Bool.{Bool, true, false, not, _||_, true≢false}
-use mathlib.Core.Logic.{_≢_}
+use mathlib.Core.Path.{_≡_, refl, sym, ap, _∙_}
+use mathlib.Core.Bool.{Bool, true, false, true≢false}
 use mathlib.Core.List.{List, [], _∷_}
 use native.Mathlib.Omega.{arith}
 use native.Mathlib.Decide.{ℕ-discrete}
-use lib.Dec.{ltb, eqb}
+use lib.Dec.{eqb}
 use borrow.Author.Tests.{eqb-true, eqb-false, eq-eqb, ne-eqb}
 use Rattle.min_cut.specs.Word.{holds}
 use Rattle.network.specs.Basics.{pick, at}
-use Rattle.cut_tree.specs.Path.{maxClimb, reaches, climb, among, without, under}
-use Rattle.cut_tree.specs.Climb.{Inside, Climbs, climbTo}
+use Rattle.network.specs.Limits.{maxNodes}
+use Rattle.cut_tree.specs.Path.{reaches, climb, among, without}
+use Rattle.cut_tree.specs.MemberLaws.{among-head, among-later}
+use Rattle.cut_tree.specs.QueryParts.{Inside, Climbs, climbTo}
 
 -- ---- staying inside
-pub inside-lt : {parent : List ℕ} {i : ℕ} → Inside parent i → i < 64
+pub inside-lt : {parent : List ℕ} {i : ℕ} → Inside parent i → i < maxNodes
 inside-lt h = let a = h .here in let b = h .small in omega arith
 
 pub inside-next : {parent : List ℕ} {i : ℕ} → Inside parent i → Inside parent (at parent i)
@@ -73,22 +74,9 @@ module _ (parent : List ℕ) where
   climbTo-on stop zero i n h e = absurd (e refl)
   climbTo-on stop (suc left) i n h e = let q : suc left - 1 ≡ left = omega arith in rw (ne-eqb i 0 n, h, q)
 
--- ---- membership
-pub among-here : (v : ℕ) (xs : List ℕ) → among v (v ∷ xs) ≡ true
-unfolding among
-among-here v xs = rw (eq-eqb v v refl)
-
 pub among-on : (v x : ℕ) (xs : List ℕ) → (v ≡ x → ⊥) → among v (x ∷ xs) ≡ among v xs
 unfolding among
 among-on v x xs n = rw (ne-eqb v x n)
-
-among-later : (v x : ℕ) (xs : List ℕ) → among v xs ≡ true → among v (x ∷ xs) ≡ true
-unfolding among
-among-later v x xs e = rw e (either (eqb v x))
-  where
-    either : (z : Bool) → pick z true true ≡ true
-    either true = refl
-    either false = refl
 
 -- ---- a climb that reaches node 0
 module _ (parent : List ℕ) where
@@ -119,7 +107,7 @@ module _ (parent : List ℕ) where
   pub climb-starts : (a i : ℕ) → reaches parent a i ≡ true → (i ≡ 0 → ⊥) → among i (climb parent a i) ≡ true
   unfolding reaches climb
   climb-starts zero i r n = absurd (n (eqb-true i 0 r))
-  climb-starts (suc a) i r n = rw (ne-eqb i 0 n) (among-here i (climb parent a (at parent i)))
+  climb-starts (suc a) i r n = rw (ne-eqb i 0 n) (among-head i (climb parent a (at parent i)))
 
   -- goes on with a node's parent, up to node 0
   pub climb-closed : (a i x : ℕ) → reaches parent a i ≡ true → among x (climb parent a i) ≡ true → (at parent x ≡ 0 → ⊥) → among (at parent x) (climb parent a i) ≡ true

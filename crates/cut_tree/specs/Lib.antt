@@ -1,14 +1,14 @@
 pub mod Rule
 pub mod Rebuild
 pub mod Path
-pub mod Climb
+pub mod QueryParts
 pub mod ClimbLaws
 pub mod QueryLaws
 pub mod SideLaws
 pub mod StepLaws
-pub mod Taking
+pub mod RebuildParts
 pub mod TakingLaws
-pub mod Rebuilding
+pub mod LoopLaws
 pub mod RuleLaws
 pub mod KeepLaws
 pub mod RebuildLaws

@@ -1,62 +1,35 @@
 -- Laws of the pair query: the lightest edge found by two climbs is the first of the lightest on the tree path.
-use Prim.Native.Nat.{ℕ, zero, suc, _-_, _≤_, _<_}
-use mathlib.Core.Path.{_≡_, refl, sym, ap, subst, _∙_}
-use mathlib.Core.Bool.{Bool, true, false, not, _||_, true≢false}
-use mathlib.Core.Logic.{_≢_}
-use mathlib.Core.List.{List, [], _∷_, _++_, reverse, reverseAux, reverse-cons}
+use Prim.Native.Nat.{ℕ, zero, suc, _≤_, _<_}
+use mathlib.Core.Path.{_≡_, refl, sym, subst, _∙_}
+use mathlib.Core.Bool.{Bool, true, false, _||_, true≢false}
+use mathlib.Core.List.{List, [], _∷_, _++_, reverse, reverse-cons}
 use native.Mathlib.Omega.{arith}
 use native.Mathlib.Decide.{ℕ-discrete}
 use lib.Dec.{ltb, eqb}
-use borrow.Author.Tests.{eqb-true, eqb-false, eq-eqb, ne-eqb, lt-ltb, le-ltb}
+use borrow.Author.Tests.{eqb-false, eq-eqb, ne-eqb, lt-ltb, le-ltb}
 use Rattle.min_cut.specs.Word.{holds}
 use Rattle.node_set.specs.Set.{empty, added, Counted}
 use Rattle.node_set.specs.SetLaws.{holds-empty, holds-added}
 use Rattle.network.specs.Basics.{pick, at}
+use Rattle.network.specs.Limits.{maxNodes}
 use Rattle.cut_tree.specs.Path.{maxClimb, reaches, climb, among, without, path, lightest, lightestOn, sideOf, answer, queryOf}
-use Rattle.cut_tree.specs.Climb.{Inside, Climbs, Pair, climbTo, addedAll, lighter, lightestFrom}
+use Rattle.cut_tree.specs.MemberLaws.{among-append, among-back, among-without, among-head, among-later}
+use Rattle.cut_tree.specs.QueryParts.{Inside, Climbs, Pair, climbTo, addedAll, lighter, lightestFrom}
 use Rattle.cut_tree.specs.ClimbLaws.{inside-lt, inside-next, climbs-inside, among-on, climb-nonzero, climb-closed, climbTo-without}
 use Rattle.cut_tree.specs.declared.Tree.{Tree}
-use Rattle.cut_tree.specs.declared.PairAnswer.{PairAnswer}
 use Rattle.cut_tree.specs.declared.PairAnswer.the-variants.{Refused, Found}
 
--- ---- membership in what a path is made of
-among-append : (v : ℕ) (xs ys : List ℕ) → among v (xs ++ ys) ≡ (among v xs || among v ys)
-unfolding among
-among-append v [] ys = refl
-among-append v (x ∷ xs) ys = rw (among-append v xs ys) (either (eqb v x))
-  where
-    either : (z : Bool) → pick z true (among v xs || among v ys) ≡ (pick z true (among v xs) || among v ys)
-    either true = refl
-    either false = refl
-
-among-reverseAux : (v : ℕ) (xs ys : List ℕ) → among v (reverseAux xs ys) ≡ (among v xs || among v ys)
-unfolding among
-among-reverseAux v [] ys = refl
-among-reverseAux v (x ∷ xs) ys = among-reverseAux v xs (x ∷ ys) ∙ either (eqb v x) (among v xs)
-  where
-    either : (z w : Bool) → (w || pick z true (among v ys)) ≡ (pick z true w || among v ys)
-    either true true = refl
-    either true false = refl
-    either false w = refl
-
+-- ---- what a path is made of
 or-false : (z : Bool) → (z || false) ≡ z
 or-false true = refl
 or-false false = refl
 
 among-reverse : (v : ℕ) (xs : List ℕ) → among v (reverse xs) ≡ among v xs
 unfolding among
-among-reverse v xs = among-reverseAux v xs [] ∙ or-false (among v xs)
+among-reverse v xs = among-back v xs [] ∙ or-false (among v xs)
 
 without-fewer : (v : ℕ) (ys xs : List ℕ) → among v xs ≡ false → among v (without ys xs) ≡ false
-unfolding among without
-without-fewer v ys [] e = refl
-without-fewer v ys (x ∷ xs) e = go (eqb v x) refl e (without-fewer v ys xs) (among x ys)
-  where
-    go : (z : Bool) → eqb v x ≡ z → pick z true (among v xs) ≡ false → (among v xs ≡ false → among v (without ys xs) ≡ false)
-        → (w : Bool) → among v (pick w (without ys xs) (x ∷ without ys xs)) ≡ false
-    go true q f ih w = absurd (true≢false f)
-    go false q f ih true = ih f
-    go false q f ih false = rw q (ih f)
+without-fewer v ys xs e = rw (among-without v ys xs, e)
 
 path-nonzero : (parent : List ℕ) (s t : ℕ) → among 0 (path parent s t) ≡ false
 unfolding path
@@ -184,40 +157,36 @@ module _ (weight : List ℕ) (k : ℕ) where
   from-below : (b : ℕ) (xs : List ℕ) → b < k → ((x : ℕ) → among x xs ≡ true → x < k) → lightestFrom weight b xs < k
   unfolding lightestFrom among
   from-below b [] l h = l
-  from-below b (x ∷ xs) l h = from-below (lighter weight b x) xs (lighter-below b x l (h x (rw (eq-eqb x x refl)))) (λ y m. h y (rw m (either (eqb y x))))
-    where
-      either : (z : Bool) → pick z true true ≡ true
-      either true = refl
-      either false = refl
+  from-below b (x ∷ xs) l h = from-below (lighter weight b x) xs (lighter-below b x l (h x (among-head x xs))) (λ y m. h y (among-later y x xs m))
 
 module _ (parent : List ℕ) (stop : ℕ) where
-  climbTo-below : (left i : ℕ) → Inside parent i → (x : ℕ) → among x (climbTo stop parent left i) ≡ true → x < 64
+  climbTo-below : (left i : ℕ) → Inside parent i → (x : ℕ) → among x (climbTo stop parent left i) ≡ true → x < maxNodes
   unfolding climbTo among
   climbTo-below zero i h x m = absurd (true≢false (sym m))
   climbTo-below (suc left) i h x m = go (eqb i 0) (holds stop i) (ℕ-discrete x i) m (climbTo-below left (at parent i) (inside-next h) x)
     where
       go : (y z : Bool) → Dec (x ≡ i) → among x (pick y [] (pick z [] (i ∷ climbTo stop parent left (at parent i)))) ≡ true
-          → (among x (climbTo stop parent left (at parent i)) ≡ true → x < 64) → x < 64
+          → (among x (climbTo stop parent left (at parent i)) ≡ true → x < maxNodes) → x < maxNodes
       go true z d e ih = absurd (true≢false (sym e))
       go false true d e ih = absurd (true≢false (sym e))
       go false false (yes d) e ih = rw d (inside-lt h)
       go false false (no d) e ih = ih (sym (among-on x i (climbTo stop parent left (at parent i)) d) ∙ e)
 
-  pub up-below : (weight : List ℕ) (left i b : ℕ) → Inside parent i → b < 64 → lightestFrom weight b (climbTo stop parent left i) < 64
-  up-below weight left i b h l = from-below weight 64 b (climbTo stop parent left i) l (climbTo-below left i h)
+  pub up-below : (weight : List ℕ) (left i b : ℕ) → Inside parent i → b < maxNodes → lightestFrom weight b (climbTo stop parent left i) < maxNodes
+  up-below weight left i b h l = from-below weight maxNodes b (climbTo stop parent left i) l (climbTo-below left i h)
 
-  pub down-below : (weight : List ℕ) (left i b : ℕ) → Inside parent i → b < 64 → lightestFrom weight b (reverse (climbTo stop parent left i)) < 64
+  pub down-below : (weight : List ℕ) (left i b : ℕ) → Inside parent i → b < maxNodes → lightestFrom weight b (reverse (climbTo stop parent left i)) < maxNodes
   down-below weight left i b h l =
-      from-below weight 64 b (reverse (climbTo stop parent left i)) l (λ x m. climbTo-below left i h x (sym (among-reverse x (climbTo stop parent left i)) ∙ m))
+      from-below weight maxNodes b (reverse (climbTo stop parent left i)) l (λ x m. climbTo-below left i h x (sym (among-reverse x (climbTo stop parent left i)) ∙ m))
 
-pub lightestOn-below : (tree : Tree) (s t : ℕ) → Pair (tree .parent) s t → lightestOn tree s t < 64
+pub lightestOn-below : (tree : Tree) (s t : ℕ) → Pair (tree .parent) s t → lightestOn tree s t < maxNodes
 lightestOn-below tree s t h =
     let ps = tree .parent in
     let ws = tree .weight in
     let x = addedAll empty (climb ps maxClimb s) in
     let y = addedAll empty (climb ps maxClimb t) in
     let first = lightestFrom ws 0 (climbTo y ps maxClimb s) in
-    subst (λ v. v < 64) (lightest-on tree s t h empty x y first _ refl refl empty refl refl refl refl)
+    subst (λ v. v < maxNodes) (lightest-on tree s t h empty x y first _ refl refl empty refl refl refl refl)
     (down-below ps x ws maxClimb t first (h .to) (up-below ps y ws maxClimb s 0 (h .from) (omega arith)))
 
 -- ---- the answer

@@ -1,14 +1,12 @@
 -- Laws of the side that a cut edge leaves: the subtree of a node, found in one pass in which the nodes before are known, or its complement.
-use Prim.Native.Nat.{ℕ, zero, suc, _+_, _-_, _^_, _≤_, _<_}
-use mathlib.Core.Path.{_≡_, refl, sym, ap, subst, _∙_}
-use mathlib.Core.Bool.{Bool, true, false, not, _&&_}
-use mathlib.Core.Logic.{_≢_}
-use mathlib.Core.List.{List, [], _∷_}
+use Prim.Native.Nat.{ℕ, suc, _+_, _-_, _^_, _<_}
+use mathlib.Core.Path.{_≡_, refl, sym, ap, _∙_}
+use mathlib.Core.Bool.{Bool, true, false, not}
+use mathlib.Core.List.{List}
 use native.Mathlib.Numerals.{add-one}
 use native.Mathlib.Omega.{arith}
 use native.Mathlib.Decide.{ℕ-discrete}
 use lib.Pow.{pow-lt}
-use lib.Dec.{ltb}
 use borrow.Author.Tests.{lt-ltb}
 use Rattle.min_cut.specs.Bools.{bool1}
 use Rattle.min_cut.specs.Cut.{Side, differ}
@@ -17,8 +15,8 @@ use Rattle.min_cut.specs.WordLaws.{same-bits, word-lt, word-holds, holds-out}
 use Rattle.node_set.specs.Set.{added, complementIn}
 use Rattle.node_set.specs.SetLaws.{added-same, added-other, added-lt, holds-complementIn, complementIn-lt}
 use Rattle.network.specs.Basics.{at}
-use Rattle.cut_tree.specs.Path.{maxClimb, reaches, climb, among, under, sideOf}
-use Rattle.cut_tree.specs.Climb.{Inside, Climbs, Known, addedIf}
+use Rattle.cut_tree.specs.Path.{maxClimb, climb, among, under, sideOf}
+use Rattle.cut_tree.specs.QueryParts.{Climbs, Known, addedIf}
 use Rattle.cut_tree.specs.ClimbLaws.{inside-next, climbs-inside, reaches-on, climb-end, climb-none, climb-on, climb-starts, climb-enough, among-on}
 
 -- ---- whether a climb goes through v

@@ -1,9 +1,8 @@
--- What the contract of a step cites, and the laws of its code: nodes moved one by one, a node placed.
+-- Laws of a step's code: the side's nodes moved one by one, and the node placed.
 use mathlib.Core.Path.{_≡_, refl, sym, ap, _∙_}
-use mathlib.Core.Logic.{_≢_}
 use mathlib.Core.Bool.{Bool, true, false, _&&_}
 use mathlib.Core.List.{List, [], _∷_}
-use Prim.Native.Nat.{ℕ, zero, suc, _+_, _≤_, _<_}
+use Prim.Native.Nat.{ℕ, suc, _+_, _<_}
 use native.Mathlib.Omega.{arith}
 use native.Mathlib.Decide.{ℕ-discrete}
 use lib.ListN.{length, set, length-set}
@@ -15,24 +14,11 @@ use Rattle.min_cut.specs.WordLaws.{holds-out}
 use Rattle.node_set.specs.Set.{removed}
 use Rattle.node_set.specs.SetLaws.{removed-same, removed-other}
 use Rattle.network.specs.Basics.{pick, at}
-use Rattle.network.specs.Limits.{maxNodes}
-use Rattle.cut_tree.specs.Rule.{moved, placed, recorded, stepped}
+use Rattle.cut_tree.specs.Rule.{moved, recorded, stepped}
 use Rattle.cut_tree.specs.RuleLaws.{length-moved, moved-at}
-use Rattle.cut_tree.specs.declared.Tree.{Tree}
-use Rattle.cut_tree.specs.declared.Steps.{Steps}
+use Rattle.cut_tree.specs.RebuildParts.{movedOne}
 use Rattle.cut_tree.specs.declared.Built.{Built}
 use Rattle.cut_tree.specs.declared.StepCut.{StepCut}
-
--- the parent of a node of the side
-abbrev pub movedOne : (p s t : ℕ) → ℕ
-movedOne p s t = pick (eqb p t) s p
-
--- a step that the code can take: nodes, and a count that has room
-pub record Ready (b : Built) (s t : ℕ) (x : StepCut) : Type 0 where
-  pub node : s < maxNodes
-  pub pivot : t < maxNodes
-  pub above : at (b .tree .parent) t < maxNodes
-  pub counted : b .count + x .anew < maxNodes
 
 -- ---- the nodes of the side, one by one
 pub moved-t : (p s t : ℕ) → p ≡ t → s ≡ movedOne p s t
@@ -85,17 +71,17 @@ moving-end p x s t r e g = sym (moved-none s t 0 p) ∙ (rw e at g)
 -- ---- a node placed
 module _ (b : Built) (s t : ℕ) (x : StepCut) (ps : List ℕ) (z : Bool) (e : ps ≡ moved (x .side) s t 0 (b .tree .parent)) (h : z ≡ holds (x .side) (at (b .tree .parent) t)) where
   pub stepped-between : z ≡ true → record {
-        tree = record { parent = set (set ps s (at (b .tree .parent) t)) t s; weight = set (set (b .tree .weight) s (at (b .tree .weight) t)) t (x .value) };
-        steps = recorded (b .steps) s t (x .side) (x .value);
-        count = b .count + x .anew;
-      } ≡ stepped b s t x
+    tree = record { parent = set (set ps s (at (b .tree .parent) t)) t s; weight = set (set (b .tree .weight) s (at (b .tree .weight) t)) t (x .value) };
+    steps = recorded (b .steps) s t (x .side) (x .value);
+    count = b .count + x .anew;
+  } ≡ stepped b s t x
   unfolding stepped
   stepped-between q = rw (e, ← h, q) refl
 
   pub stepped-beside : z ≡ false → record {
-        tree = record { parent = set ps s t; weight = set (b .tree .weight) s (x .value) };
-        steps = recorded (b .steps) s t (x .side) (x .value);
-        count = b .count + x .anew;
-      } ≡ stepped b s t x
+    tree = record { parent = set ps s t; weight = set (b .tree .weight) s (x .value) };
+    steps = recorded (b .steps) s t (x .side) (x .value);
+    count = b .count + x .anew;
+  } ≡ stepped b s t x
   unfolding stepped
   stepped-beside q = rw (e, ← h, q) refl

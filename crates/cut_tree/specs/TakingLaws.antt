@@ -1,6 +1,6 @@
 -- Laws of the keeping test's code, one for each way through it.
 use mathlib.Core.Path.{_≡_, refl, sym, _∙_}
-use mathlib.Core.Bool.{Bool, true, false, not, _&&_, _||_, Bool·beq, true≢false}
+use mathlib.Core.Bool.{Bool, true, false, not, _||_, Bool·beq, true≢false}
 use Prim.Native.Nat.{ℕ, _-_, _≤_, _<_}
 use native.Mathlib.Omega.{arith}
 use native.Mathlib.Decide.{decLt}
@@ -13,10 +13,10 @@ use Rattle.network.specs.declared.Network.{Network}
 use Rattle.max_flow.specs.LeastCut.{leastCutOf}
 use Rattle.max_flow.specs.declared.Cut.{Cut}
 use Rattle.cut_tree.specs.Rule.{leastCut}
-use Rattle.cut_tree.specs.Taking.{crossed, survived, keptBy, keptCut, taken}
+use Rattle.cut_tree.specs.RebuildParts.{crossed, survived, keptBy, keptCut, taken}
 use Rattle.cut_tree.specs.declared.StepCut.{StepCut}
-use Rattle.cut_tree.specs.declared.rebuild.Change.{Change}
-use Rattle.cut_tree.specs.declared.rebuild.OldStep.{OldStep}
+use Rattle.cut_tree.specs.declared.keep.Change.{Change}
+use Rattle.cut_tree.specs.declared.keep.OldStep.{OldStep}
 
 differ-beq : (x y : Bool) → not (Bool·beq x y) ≡ differ x y
 differ-beq true true = refl

@@ -1,11 +1,15 @@
-pub mod path;
-mod rebuild;
-mod rule;
+// Cut trees (document 01, "The tree" and "The plan and its changes"): built by Gusfield's rule, worked out again after a change, asked for a pair.
+mod keep; // which steps are kept, and a step's cut
+mod path; // the pair query, and whether a node reaches node 0
+mod rule; // one step of the rule
+mod trees; // build and rebuild
 
+pub use crate::path::MAX_CLIMB;
+pub use crate::path::query;
+pub use crate::path::reaches_root;
+pub use crate::trees::build;
+pub use crate::trees::rebuild;
 use network::MAX_NODES;
-pub use path::MAX_CLIMB;
-pub use path::query;
-pub use path::reaches_root;
 
 // A cut tree: every node's parent, and the weight of the edge between them. Node 0 has parent 0 and weight 0.
 pub struct Tree {

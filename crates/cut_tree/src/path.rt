@@ -1,16 +1,16 @@
 // The pair query (document 01, "Pair, flow, writing"). The path is found by recursion along parents with a count that falls, and so is
 // whether every node reaches node 0.
+use crate::PairAnswer;
+use crate::Tree;
 use network::MAX_NODES;
-use super::PairAnswer;
-use super::Tree;
 ghost use mathlib.Core.Path.{_≡_};
-ghost use Prim.Native.Nat.{ℕ, _<_, _≤_};
+ghost use Prim.Native.Nat.{_<_};
 ghost use mathlib.Core.List.{reverse};
 ghost use Rattle.min_cut.specs.Word.{word};
 ghost use Rattle.network.specs.Limits.{maxNodes};
-ghost use Rattle.cut_tree.specs.Path.{reaches, climb, among, under, lightestOn, sideOf, queryOf};
-ghost use Rattle.cut_tree.specs.Climb.{Inside, Climbs, Known, climbTo, addedAll, addedIf, lighter, lightestFrom};
-ghost use Rattle.cut_tree.specs.Climb.{Pair};
+ghost use Rattle.cut_tree.specs.Path.{maxClimb, reaches, climb, among, under, lightestOn, sideOf, queryOf};
+ghost use Rattle.cut_tree.specs.QueryParts.{Inside, Climbs, Known, climbTo, addedAll, addedIf, lighter, lightestFrom};
+ghost use Rattle.cut_tree.specs.QueryParts.{Pair};
 
 // The most parents on the way to node 0.
 pub const MAX_CLIMB: usize = 63;
@@ -122,7 +122,14 @@ fn lightest_on(parent: &[u8; MAX_NODES], weight: &[u32; MAX_NODES], s: usize, t:
 }
 
 // Whether the climb from j goes through v. Of the nodes below i that is known: those that do are in x.
-fn climbs_through(parent: &[u8; MAX_NODES], v: usize, x: u64, i: usize, left: usize, j: usize) -> bool
+fn climbs_through(
+    parent: &[u8; MAX_NODES],
+    v: usize,
+    x: u64,
+    i: usize,
+    left: usize,
+    j: usize,
+) -> bool
     requires { ⌜ Known (now parent) v x i left j ⌝ }
     ensures { λ r. ⌜ r ≡ among v (climb (now (parent .entry)) left j) ⌝ }
 {
@@ -144,7 +151,7 @@ fn climbs_through(parent: &[u8; MAX_NODES], v: usize, x: u64, i: usize, left: us
 
 // The subtree of v below i, with i if it is of that subtree.
 fn with_node(parent: &[u8; MAX_NODES], v: usize, x: u64, i: usize) -> u64
-    requires { ⌜ Known (now parent) v x i 63 i ⌝ }
+    requires { ⌜ Known (now parent) v x i maxClimb i ⌝ }
     ensures { λ r. ⌜ r ≡ addedIf (under (now (parent .entry)) v i) x i ⌝ }
 {
     if climbs_through(parent, v, x, i, MAX_CLIMB, i) {

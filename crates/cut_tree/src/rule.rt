@@ -1,19 +1,31 @@
 // One step of Gusfield's rule (document 01, "The tree").
+use crate::Built;
+use crate::StepCut;
+use crate::Steps;
+use crate::Tree;
 use network::MAX_NODES;
-use super::{Built, StepCut, Steps, Tree};
 ghost use mathlib.Core.Path.{_≡_};
-ghost use Prim.Native.Nat.{ℕ, _<_};
-ghost use Rattle.network.specs.Limits.{maxNodes};
 ghost use Rattle.cut_tree.specs.Rule.{moved, stepped, unbuilt};
-ghost use Rattle.cut_tree.specs.StepLaws.{movedOne, Ready};
+ghost use Rattle.cut_tree.specs.RebuildParts.{movedOne, StepReady};
 
 // At first all parents are 0.
 pub fn unbuilt() -> Built
     ensures { λ r. ⌜ r ≡ unbuilt ⌝ }
 {
-    let tree = Tree { parent: [0; MAX_NODES], weight: [0; MAX_NODES] };
-    let steps = Steps { pivot: [0; MAX_NODES], side: [0; MAX_NODES], value: [0; MAX_NODES] };
-    Built { tree: tree, steps: steps, count: 0 }
+    let tree = Tree {
+        parent: [0; MAX_NODES],
+        weight: [0; MAX_NODES],
+    };
+    let steps = Steps {
+        pivot: [0; MAX_NODES],
+        side: [0; MAX_NODES],
+        value: [0; MAX_NODES],
+    };
+    Built {
+        tree: tree,
+        steps: steps,
+        count: 0,
+    }
 }
 
 // The parent p of a node of the step's side: s in place of t.
@@ -39,7 +51,7 @@ fn move_nodes(parent: [u8; MAX_NODES], x: u64, s: u8, t: u8) -> [u8; MAX_NODES]
 
 // Step s, of pivot t, by the cut x: s is placed beside t; or, where x holds the parent of t, between that parent and t.
 pub fn step(b: Built, s: usize, t: usize, x: StepCut) -> Built
-    requires { ⌜ Ready b s t x ⌝ }
+    requires { ⌜ StepReady b s t x ⌝ }
     ensures { λ r. ⌜ r ≡ stepped b s t x ⌝ }
 {
     let tree = b.tree;
@@ -54,7 +66,11 @@ pub fn step(b: Built, s: usize, t: usize, x: StepCut) -> Built
     pivot[s] = t as u8;
     side[s] = x.side;
     value[s] = x.value;
-    let recorded = Steps { pivot: pivot, side: side, value: value };
+    let recorded = Steps {
+        pivot: pivot,
+        side: side,
+        value: value,
+    };
     let count = b.count + x.anew;
     if node_set::contains(x.side, q as usize) {
         parent[s] = q;
@@ -62,11 +78,25 @@ pub fn step(b: Built, s: usize, t: usize, x: StepCut) -> Built
         let old = weight[t];
         weight[s] = old;
         weight[t] = x.value;
-        let placed = Tree { parent: parent, weight: weight };
-        return Built { tree: placed, steps: recorded, count: count };
+        let placed = Tree {
+            parent: parent,
+            weight: weight,
+        };
+        return Built {
+            tree: placed,
+            steps: recorded,
+            count: count,
+        };
     }
     parent[s] = t as u8;
     weight[s] = x.value;
-    let placed = Tree { parent: parent, weight: weight };
-    Built { tree: placed, steps: recorded, count: count }
+    let placed = Tree {
+        parent: parent,
+        weight: weight,
+    };
+    Built {
+        tree: placed,
+        steps: recorded,
+        count: count,
+    }
 }

@@ -1,5 +1,4 @@
 -- Each return is a way through `climb`; the count that is left falls.
-use mathlib.Core.Path.{sym, _∙_}
 use native.Mathlib.Omega.{arith}
 use Rattle.cut_tree.specs.ClimbLaws.{inside-lt, inside-next, climb-end, climb-none, climb-on}
 use Rattle.cut_tree.specs.QueryLaws.{added-none, added-on}

@@ -1,11 +1,10 @@
 -- Each return is a way through `climbTo`; the count that is left falls.
 use mathlib.Core.Path.{sym, _∙_}
-use Prim.Native.Nat.{_-_}
 use native.Mathlib.Omega.{arith}
 use lib.ListN.{getD}
 use Rattle.cut_tree.specs.ClimbLaws.{inside-lt, inside-next, climbTo-end, climbTo-none, climbTo-stop, climbTo-on}
 use Rattle.cut_tree.specs.QueryLaws.{down-none, down-on, down-below}
-use Prim.Native.Nat.{ℕ, _<_}
+use Prim.Native.Nat.{ℕ, _-_, _<_}
 use borrow.Fn.Kinds.{In}
 use borrow.Fn.PlainCycle.{Measures, is, falls, and}
 use Rattle.cut_tree.proofs.path.lightest_down.Reads as this

@@ -3,8 +3,6 @@ use Rattle.cut_tree.specs.QueryLaws.{lighter-none, lighter-less, lighter
 use borrow.Author.Needs.{needs}
 use Rattle.cut_tree.proofs.path.lighter.Statement.{statement}
 use Rattle.cut_tree.proofs.path.lighter.Tie as tie
-use Rattle.cut_tree.proofs.path.lighter.Reads as reads
-use Rattle.cut_tree.proofs.path.lighter.Lts as lts
 
 returns : tie.Need-returns
 returns c = lighter-none _ _ _ (c .if1 .taken)

@@ -5,12 +5,6 @@ use Rattle.cut_tree.specs.QueryLaws.{lightest-on, up-below}
 use borrow.Author.Needs.{needs}
 use Rattle.cut_tree.proofs.path.lightest_on.Statement.{statement}
 use Rattle.cut_tree.proofs.path.lightest_on.Tie as tie
-use Rattle.cut_tree.proofs.path.lightest_on.Reads as reads
-use Rattle.cut_tree.proofs.path.lightest_on.Lts as lts
-use Rattle.cut_tree.proofs.path.ancestors.Reads as ancestors-reads
-use Rattle.cut_tree.proofs.path.lightest_down.Reads as lightest-down-reads
-use Rattle.cut_tree.proofs.path.lightest_up.Reads as lightest-up-reads
-use Rattle.node_set.proofs.empty.Reads as empty-reads
 
 empty-requires : tie.Need-empty-requires
 empty-requires c κs = search needs

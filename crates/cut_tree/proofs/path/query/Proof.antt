@@ -5,11 +5,6 @@ use Rattle.cut_tree.specs.QueryLaws.{refused-s, refused-t, refused-same,
 use borrow.Author.Needs.{needs}
 use Rattle.cut_tree.proofs.path.query.Statement.{statement}
 use Rattle.cut_tree.proofs.path.query.Tie as tie
-use Rattle.cut_tree.proofs.path.query.Reads as reads
-use Rattle.cut_tree.proofs.path.query.Lts as lts
-use Rattle.cut_tree.proofs.path.lightest_on.Reads as lightest-on-reads
-use Rattle.cut_tree.proofs.path.side_of.Reads as side-of-reads
-use Rattle.node_set.proofs.size.Reads as size-reads
 
 returns : tie.Need-returns
 returns c = refused-s _ _ _ _ (c .if1 .taken)

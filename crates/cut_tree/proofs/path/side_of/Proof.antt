@@ -1,5 +1,5 @@
 -- The subtree of v where s is in it, else its complement.
-use mathlib.Core.Path.{_≡_, sym, _∙_}
+use mathlib.Core.Path.{sym, _∙_}
 use native.Mathlib.Omega.{arith}
 use Rattle.min_cut.specs.WordLaws.{word-lt}
 use Rattle.cut_tree.specs.Path.{under}
@@ -7,11 +7,6 @@ use Rattle.cut_tree.specs.SideLaws.{side-with, side-without}
 use borrow.Author.Needs.{needs}
 use Rattle.cut_tree.proofs.path.side_of.Statement.{statement}
 use Rattle.cut_tree.proofs.path.side_of.Tie as tie
-use Rattle.cut_tree.proofs.path.side_of.Reads as reads
-use Rattle.cut_tree.proofs.path.side_of.Lts as lts
-use Rattle.cut_tree.proofs.path.subtree.Reads as subtree-reads
-use Rattle.node_set.proofs.complement.Reads as complement-reads
-use Rattle.node_set.proofs.contains.Reads as contains-reads
 
 subtree-requires : tie.Need-subtree-requires
 subtree-requires c κs = search needs

@@ -1,5 +1,5 @@
 -- The loop has the subtree of v among the nodes before i.
-use mathlib.Core.Path.{_≡_, sym, _∙_}
+use mathlib.Core.Path.{_≡_, _∙_}
 use Prim.Native.Nat.{_≤_, _-_}
 use native.Mathlib.Omega.{arith}
 use Rattle.min_cut.specs.Word.{word}
@@ -7,9 +7,6 @@ use Rattle.cut_tree.specs.Path.{under}
 use Rattle.cut_tree.specs.SideLaws.{pass-start, pass-known, pass-next, pass-end}
 use Rattle.cut_tree.proofs.path.subtree.Statement.{statement}
 use Rattle.cut_tree.proofs.path.subtree.Tie as tie
-use Rattle.cut_tree.proofs.path.subtree.Reads as reads
-use Rattle.cut_tree.proofs.path.subtree.Lts as lts
-use Rattle.cut_tree.proofs.path.with_node.Reads as with-node-reads
 
 abbrev Inv-loop : tie.InvT-loop
 Inv-loop parent n v x₀ i₀ x i = (i ≤ n) × (x ≡ word i (under parent v))

@@ -3,10 +3,6 @@ use Rattle.cut_tree.specs.SideLaws.{added-so, added-not}
 use borrow.Author.Needs.{needs}
 use Rattle.cut_tree.proofs.path.with_node.Statement.{statement}
 use Rattle.cut_tree.proofs.path.with_node.Tie as tie
-use Rattle.cut_tree.proofs.path.with_node.Reads as reads
-use Rattle.cut_tree.proofs.path.with_node.Lts as lts
-use Rattle.cut_tree.proofs.path.climbs_through.Reads as climbs-through-reads
-use Rattle.node_set.proofs.add.Reads as add-reads
 
 climbs-through-requires : tie.Need-climbs-through-requires
 climbs-through-requires c κs = search needs

@@ -7,11 +7,6 @@ use Rattle.cut_tree.specs.Rule.{moved}
 use Rattle.cut_tree.specs.StepLaws.{moving-next, moving-end}
 use Rattle.cut_tree.proofs.rule.move_nodes.Statement.{statement}
 use Rattle.cut_tree.proofs.rule.move_nodes.Tie as tie
-use Rattle.cut_tree.proofs.rule.move_nodes.Reads as reads
-use Rattle.cut_tree.proofs.rule.move_nodes.Lts as lts
-use Rattle.cut_tree.proofs.rule.moved_one.Reads as moved-one-reads
-use Rattle.node_set.proofs.lowest.Reads as lowest-reads
-use Rattle.node_set.proofs.remove.Reads as remove-reads
 
 abbrev Inv-loop : tie.InvT-loop
 Inv-loop x s t p₀ rest₀ p rest = moved rest s t 0 p ≡ moved x s t 0 p₀

@@ -2,8 +2,6 @@
 use Rattle.cut_tree.specs.StepLaws.{moved-t, moved-not}
 use Rattle.cut_tree.proofs.rule.moved_one.Statement.{statement}
 use Rattle.cut_tree.proofs.rule.moved_one.Tie as tie
-use Rattle.cut_tree.proofs.rule.moved_one.Reads as reads
-use Rattle.cut_tree.proofs.rule.moved_one.Lts as lts
 
 returns : tie.Need-returns
 returns c = moved-t _ _ _ (c .if1 .taken)

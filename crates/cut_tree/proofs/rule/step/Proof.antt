@@ -3,10 +3,6 @@ use Rattle.cut_tree.specs.StepLaws.{stepped-between, stepped-beside}
 use borrow.Author.Needs.{needs}
 use Rattle.cut_tree.proofs.rule.step.Statement.{statement}
 use Rattle.cut_tree.proofs.rule.step.Tie as tie
-use Rattle.cut_tree.proofs.rule.step.Reads as reads
-use Rattle.cut_tree.proofs.rule.step.Lts as lts
-use Rattle.cut_tree.proofs.rule.move_nodes.Reads as move-nodes-reads
-use Rattle.node_set.proofs.contains.Reads as contains-reads
 
 array-read-q : tie.Need-array-read-q
 array-read-q c = search needs

@@ -4,13 +4,10 @@ use Prim.Native.Nat.{_<_}
 use native.Mathlib.Omega.{arith}
 use Rattle.network.specs.Network.{Sized}
 use Rattle.network.specs.NetworkLaws.{nodes-le, links-le, ends-within, change-fits}
-use Rattle.cut_tree.specs.Rebuilding.{rebuilt-is}
+use Rattle.cut_tree.specs.LoopLaws.{rebuilt-is}
 use borrow.Author.Needs.{needs}
-use Rattle.cut_tree.proofs.rebuild.rebuild.Statement.{statement}
-use Rattle.cut_tree.proofs.rebuild.rebuild.Tie as tie
-use Rattle.cut_tree.proofs.rebuild.rebuild.Reads as reads
-use Rattle.cut_tree.proofs.rebuild.rebuild.Lts as lts
-use Rattle.cut_tree.proofs.rebuild.worked_out.Reads as worked-out-reads
+use Rattle.cut_tree.proofs.trees.rebuild.Statement.{statement}
+use Rattle.cut_tree.proofs.trees.rebuild.Tie as tie
 
 link : (c : tie.Start) → c .args .k < 256
 link c = omega (arith, c .pre .link, links-le (c .args .net) (c .pre .fits))
@@ -47,8 +44,7 @@ worked-out-requires c κs =
     let st = c .before .before .before in
     let p = st .pre in
     let few = nodes-le (st .args .net) (p .fits) in
-    let ends = ends-within (st .args .net) (p .fits) (st .args .k) (p .link) in
-    (
+    let ends = ends-within (st .args .net) (p .fits) (st .args .k) (p .link) in (
       change-fits (st .args .net) (st .args .k) (st .args .d) (p .link) (p .capacity) (record { fits = p .fits; sized = sized st }),
       record { a = omega (arith, few, ends .0); b = omega (arith, few, ends .1) },
     )

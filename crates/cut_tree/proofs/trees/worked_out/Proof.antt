@@ -4,16 +4,9 @@ use native.Mathlib.Omega.{arith}
 use borrow.Author.Needs.{needs}
 use lib.ListN.{getD}
 use Rattle.network.specs.NetworkLaws.{nodes-le}
-use Rattle.cut_tree.specs.Rebuilding.{Going, going-start, going-parent, going-count, going-next, going-end}
-use Rattle.cut_tree.proofs.rebuild.worked_out.Statement.{statement}
-use Rattle.cut_tree.proofs.rebuild.worked_out.Tie as tie
-use Rattle.cut_tree.proofs.rebuild.worked_out.Reads as reads
-use Rattle.cut_tree.proofs.rebuild.worked_out.Lts as lts
-use Rattle.cut_tree.proofs.rebuild.take.Reads as take-reads
-use Rattle.cut_tree.proofs.rule.step.Reads as step-reads
-use Rattle.cut_tree.proofs.rule.unbuilt.Reads as unbuilt-reads
-use Rattle.max_flow.proofs.neighbours.Reads as neighbours-reads
-use Rattle.network.proofs.incidence_of.Reads as incidence-of-reads
+use Rattle.cut_tree.specs.LoopLaws.{Going, going-start, going-parent, going-count, going-next, going-end}
+use Rattle.cut_tree.proofs.trees.worked_out.Statement.{statement}
+use Rattle.cut_tree.proofs.trees.worked_out.Tie as tie
 
 abbrev Inv-loop : tie.InvT-loop
 Inv-loop net h steps n arcs near b₀ s₀ b s = Going net steps h b s
@@ -69,8 +62,7 @@ element-copy-out-t28 c = omega (arith, node (c .before .before .before .before))
 take-requires : tie.Need-take-requires Inv-loop μ-loop
 take-requires c κs =
     let i = c .before .before .before .before .before in
-    let a = i .before .before .before .before in
-    (
+    let a = i .before .before .before .before in (
       a .before .pre .1,
       record {
         ends = record { fits = a .before .pre .0; source = i .loop-test .taken; sink = omega (arith, i .loop-test .taken, pivot i (i .before .loop .s)); apart = λ e. omega (arith, e, pivot i (i .before .loop .s)) };

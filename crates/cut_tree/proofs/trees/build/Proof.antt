@@ -1,16 +1,13 @@
 -- No pivot is a node, so no step is kept.
 use mathlib.Core.Path.{_∙_}
-use Prim.Native.Nat.{ℕ, _≤_}
+use Prim.Native.Nat.{ℕ}
 use native.Mathlib.Omega.{arith}
 use lib.ListN.{getD-replicate}
 use Rattle.network.specs.NetworkLaws.{nodes-le}
-use Rattle.cut_tree.specs.Rebuilding.{built-is}
+use Rattle.cut_tree.specs.LoopLaws.{built-is}
 use borrow.Author.Needs.{needs}
-use Rattle.cut_tree.proofs.rebuild.build.Statement.{statement}
-use Rattle.cut_tree.proofs.rebuild.build.Tie as tie
-use Rattle.cut_tree.proofs.rebuild.build.Reads as reads
-use Rattle.cut_tree.proofs.rebuild.build.Lts as lts
-use Rattle.cut_tree.proofs.rebuild.worked_out.Reads as worked-out-reads
+use Rattle.cut_tree.proofs.trees.build.Statement.{statement}
+use Rattle.cut_tree.proofs.trees.build.Tie as tie
 
 worked-out-requires : tie.Need-worked-out-requires
 worked-out-requires c κs = search needs

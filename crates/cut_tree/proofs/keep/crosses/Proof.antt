@@ -1,11 +1,8 @@
 -- The side crosses the link where it holds exactly one of its ends.
 use Rattle.cut_tree.specs.TakingLaws.{crossed-by}
 use borrow.Author.Needs.{needs}
-use Rattle.cut_tree.proofs.rebuild.crosses.Statement.{statement}
-use Rattle.cut_tree.proofs.rebuild.crosses.Tie as tie
-use Rattle.cut_tree.proofs.rebuild.crosses.Reads as reads
-use Rattle.cut_tree.proofs.rebuild.crosses.Lts as lts
-use Rattle.node_set.proofs.contains.Reads as contains-reads
+use Rattle.cut_tree.proofs.keep.crosses.Statement.{statement}
+use Rattle.cut_tree.proofs.keep.crosses.Tie as tie
 
 contains-requires : tie.Need-contains-requires
 contains-requires c κs = search needs

@@ -1,11 +1,8 @@
 -- Each return is one of the three cases, or none of them.
 use Rattle.cut_tree.specs.TakingLaws.{survived-same, survived-rise, survived-fall, survived-not}
 use borrow.Author.Needs.{needs}
-use Rattle.cut_tree.proofs.rebuild.survives.Statement.{statement}
-use Rattle.cut_tree.proofs.rebuild.survives.Tie as tie
-use Rattle.cut_tree.proofs.rebuild.survives.Reads as reads
-use Rattle.cut_tree.proofs.rebuild.survives.Lts as lts
-use Rattle.cut_tree.proofs.rebuild.crosses.Reads as crosses-reads
+use Rattle.cut_tree.proofs.keep.survives.Statement.{statement}
+use Rattle.cut_tree.proofs.keep.survives.Tie as tie
 
 returns : tie.Need-returns
 returns c = survived-same _ _ (c .if1 .taken)

@@ -1,11 +1,8 @@
 -- A step is kept where its pivot stays and its cut survives.
 use Rattle.cut_tree.specs.TakingLaws.{kept-moved, kept-stays}
 use borrow.Author.Needs.{needs}
-use Rattle.cut_tree.proofs.rebuild.keeps.Statement.{statement}
-use Rattle.cut_tree.proofs.rebuild.keeps.Tie as tie
-use Rattle.cut_tree.proofs.rebuild.keeps.Reads as reads
-use Rattle.cut_tree.proofs.rebuild.keeps.Lts as lts
-use Rattle.cut_tree.proofs.rebuild.survives.Reads as survives-reads
+use Rattle.cut_tree.proofs.keep.keeps.Statement.{statement}
+use Rattle.cut_tree.proofs.keep.keeps.Tie as tie
 
 returns : tie.Need-returns
 returns c = kept-moved _ _ _ (c .if1 .taken)

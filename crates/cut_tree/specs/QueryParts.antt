@@ -1,4 +1,4 @@
--- The climbs of the pair query, as its code goes: what the contracts of its parts cite. The query's own contract is `queryOf`.
+-- What the contracts of the pair query's parts cite: its climbs, as the code goes. The query's own contract is `queryOf`.
 use Prim.Native.Nat.{ℕ, zero, suc, _≤_, _<_}
 use mathlib.Core.Path.{_≡_}
 use mathlib.Core.Bool.{Bool, true, false}

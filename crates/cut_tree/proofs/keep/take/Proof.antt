@@ -2,13 +2,8 @@
 use mathlib.Core.Path.{sym, _∙_}
 use Rattle.cut_tree.specs.TakingLaws.{kept-room, took-kept, took-anew}
 use borrow.Author.Needs.{needs}
-use Rattle.cut_tree.proofs.rebuild.take.Statement.{statement}
-use Rattle.cut_tree.proofs.rebuild.take.Tie as tie
-use Rattle.cut_tree.proofs.rebuild.take.Reads as reads
-use Rattle.cut_tree.proofs.rebuild.take.Lts as lts
-use Rattle.cut_tree.proofs.rebuild.keeps.Reads as keeps-reads
-use Rattle.cut_tree.proofs.rebuild.kept_cut.Reads as kept-cut-reads
-use Rattle.max_flow.proofs.least_cut_by.Reads as least-cut-by-reads
+use Rattle.cut_tree.proofs.keep.take.Statement.{statement}
+use Rattle.cut_tree.proofs.keep.take.Tie as tie
 
 keeps-requires : tie.Need-keeps-requires
 keeps-requires c κs = search needs

@@ -1,10 +1,8 @@
 -- The value is less by the fall, if it falls.
 use Rattle.cut_tree.specs.TakingLaws.{kept-whole, kept-less}
 use borrow.Author.Needs.{needs}
-use Rattle.cut_tree.proofs.rebuild.kept_cut.Statement.{statement}
-use Rattle.cut_tree.proofs.rebuild.kept_cut.Tie as tie
-use Rattle.cut_tree.proofs.rebuild.kept_cut.Reads as reads
-use Rattle.cut_tree.proofs.rebuild.kept_cut.Lts as lts
+use Rattle.cut_tree.proofs.keep.kept_cut.Statement.{statement}
+use Rattle.cut_tree.proofs.keep.kept_cut.Tie as tie
 
 returns : tie.Need-returns
 returns c = kept-whole _ _ (c .if1 .taken)

@@ -1,5 +1,5 @@
 -- The loop that works a tree out, before step s: its invariant and that invariant's laws. A rebuild and a first build are this loop.
-use mathlib.Core.Path.{_≡_, refl, sym, ap, _∙_}
+use mathlib.Core.Path.{_≡_, refl, ap, _∙_}
 use mathlib.Core.Logic.{_≢_}
 use mathlib.Core.Bool.{Bool, true, false}
 use Prim.Native.Nat.{ℕ, zero, suc, _+_, _-_, _≤_, _<_}
@@ -12,12 +12,12 @@ use Rattle.network.specs.declared.Network.{Network}
 use Rattle.cut_tree.specs.Rule.{unbuilt, stepped, ruleBy, leastCut, rule}
 use Rattle.cut_tree.specs.Rebuild.{kept, keptOrLeast, rebuilt}
 use Rattle.cut_tree.specs.RuleLaws.{parents-le, rule-ext}
-use Rattle.cut_tree.specs.Taking.{changeOf, stepOf, crossed, survived, keptBy, keptCut, taken, workedOut}
+use Rattle.cut_tree.specs.RebuildParts.{changeOf, stepOf, crossed, survived, keptBy, keptCut, taken, workedOut}
 use Rattle.cut_tree.specs.declared.Steps.{Steps}
 use Rattle.cut_tree.specs.declared.Built.{Built}
 use Rattle.cut_tree.specs.declared.StepCut.{StepCut}
-use Rattle.cut_tree.specs.declared.rebuild.Change.{Change}
-use Rattle.cut_tree.specs.declared.rebuild.OldStep.{OldStep}
+use Rattle.cut_tree.specs.declared.keep.Change.{Change}
+use Rattle.cut_tree.specs.declared.keep.OldStep.{OldStep}
 
 taken-anew : (net : Network) (h : Change) (o : OldStep) (s t : ℕ) → taken net h o s t .anew ≤ 1
 unfolding taken keptCut leastCut
