@@ -5,8 +5,10 @@ pub mod Run
 pub mod History
 pub mod MachineLaws
 pub mod ChecksLaws
-pub mod SoundTests
+pub mod SoundParts
 pub mod SoundLaws
 pub mod SoundFacts
 pub mod CallParts
 pub mod CallLaws
+pub mod ChangeLaws
+pub mod OpenLaws

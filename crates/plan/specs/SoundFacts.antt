@@ -14,7 +14,7 @@ use Rattle.network.specs.Limits.{maxCapacity, maxValue}
 use Rattle.network.specs.Network.{networkFits}
 use Rattle.network.specs.NetworkLaws.{nodes-le}
 use Rattle.cut_tree.specs.Path.{maxClimb, reaches}
-use Rattle.cut_tree.specs.Climb.{Climbs}
+use Rattle.cut_tree.specs.QueryParts.{Climbs}
 use Rattle.cut_tree.specs.declared.Tree.{Tree}
 use Rattle.plan.specs.Plan.{maxDepth, treeFits, stepsFit, entryFits, stackFits, sound}
 use Rattle.plan.specs.declared.Plan.{Plan}

@@ -11,10 +11,10 @@ use Rattle.network.specs.Basics.{at, all}
 use Rattle.network.specs.BasicsLaws.{all-at, all-none, all-more, all-fails}
 use Rattle.network.specs.Limits.{maxNodes}
 use Rattle.node_set.specs.Set.{allBelow}
-use Rattle.cut_tree.specs.Climb.{Inside}
+use Rattle.cut_tree.specs.QueryParts.{Inside}
 use Rattle.cut_tree.specs.declared.Steps.{Steps}
 use Rattle.plan.specs.Plan.{stepFits}
-use Rattle.plan.specs.SoundTests.{parentsWithin, rootStepWithin, stepWithin}
+use Rattle.plan.specs.SoundParts.{parentsWithin, rootStepWithin, stepWithin}
 
 -- no node of the side is n or above just if the side is at most the word of the nodes below n
 module _ (n side r : ℕ) (e : r ≡ allBelow n) where

@@ -2,8 +2,10 @@
 // its name in specs/Calls.antt, and holds of every input.
 
 mod answers; // pairs and headrooms
+mod changes; // change and undo
 mod checks; // refusals of change and undo
 mod sound; // number 19: the shape of a plan
+mod files; // opening and writing
 mod flows; // the flow call
 mod entries; // changes that can be undone
 

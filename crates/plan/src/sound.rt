@@ -14,7 +14,7 @@ ghost use Prim.Native.Nat.{_<_, _≤_};
 ghost use Rattle.network.specs.Basics.{all};
 ghost use Rattle.network.specs.Limits.{maxNodes};
 ghost use Rattle.plan.specs.Plan.{maxDepth, treeFits, stepFits, stepsFit, entryFits, stackFits, sound};
-ghost use Rattle.plan.specs.SoundTests.{parentsWithin, weightsWithin, rooted, rootStepWithin, stepWithin, entryWithin};
+ghost use Rattle.plan.specs.SoundParts.{parentsWithin, weightsWithin, rooted, rootStepWithin, stepWithin, entryWithin};
 
 fn is_node(i: u8, n: usize) -> bool
     ensures { λ r. ⌜ r ≡ ltb i n ⌝ }

@@ -5,7 +5,7 @@ use Prim.Native.Nat.{ℕ, _≤_, _-_}
 use native.Mathlib.Omega.{arith}
 use borrow.Author.Needs.{needs}
 use Rattle.network.specs.BasicsLaws.{all-none, all-more, all-fails, answered-no, answered-yes}
-use Rattle.plan.specs.SoundTests.{rooted}
+use Rattle.plan.specs.SoundParts.{rooted}
 use Rattle.plan.specs.SoundLaws.{parents-inside}
 use Rattle.plan.proofs.sound.rooted.Statement.{statement}
 use Rattle.plan.proofs.sound.rooted.Tie as tie

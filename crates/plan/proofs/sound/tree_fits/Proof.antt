@@ -9,7 +9,7 @@ use Rattle.network.specs.Basics.{at}
 use Rattle.network.specs.BasicsLaws.{Settled, fail, pass, last, settled, answered-no, answered-yes}
 use Rattle.cut_tree.specs.declared.Tree.{Tree}
 use Rattle.plan.specs.Plan.{treeFits}
-use Rattle.plan.specs.SoundTests.{parentsWithin, weightsWithin, rooted}
+use Rattle.plan.specs.SoundParts.{parentsWithin, weightsWithin, rooted}
 use Rattle.plan.proofs.sound.tree_fits.Statement.{statement}
 use Rattle.plan.proofs.sound.tree_fits.Tie as tie
 

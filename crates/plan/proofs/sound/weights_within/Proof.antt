@@ -6,7 +6,7 @@ use native.Mathlib.Omega.{arith}
 use borrow.Author.Tests.{le-leb, lt-leb}
 use Rattle.network.specs.Basics.{all}
 use Rattle.network.specs.BasicsLaws.{all-none, all-more, all-fails}
-use Rattle.plan.specs.SoundTests.{weightsWithin}
+use Rattle.plan.specs.SoundParts.{weightsWithin}
 use Rattle.plan.proofs.sound.weights_within.Statement.{statement}
 use Rattle.plan.proofs.sound.weights_within.Tie as tie
 
