@@ -25,3 +25,11 @@ pub mod Layers
 pub mod HistoryLaws
 pub mod Standing
 pub mod HistoryProof
+-- laws for the proofs of the code
+pub mod SoundParts
+pub mod SoundLaws
+pub mod SoundFacts
+pub mod CallParts
+pub mod CallLaws
+pub mod ChangeLaws
+pub mod OpenLaws
