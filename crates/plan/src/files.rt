@@ -16,28 +16,24 @@ ghost use Rattle.plan.specs.Plan.{noPlan};
 fn no_plan() -> Plan
     ensures { λ r. ⌜ r ≡ noPlan ⌝ }
 {
-    let network = Network {
-        nodes: 0,
-        links: 0,
-        a: [0; MAX_LINKS],
-        b: [0; MAX_LINKS],
-        capacity: [0; MAX_LINKS],
-    };
-    let tree = Tree {
-        parent: [0; MAX_NODES],
-        weight: [0; MAX_NODES],
-    };
-    let steps = Steps {
-        pivot: [0; MAX_NODES],
-        side: [0; MAX_NODES],
-        value: [0; MAX_NODES],
-    };
-    let stack = entries::empty();
     Plan {
-        network: network,
-        tree: tree,
-        steps: steps,
-        stack: stack,
+        network: Network {
+            nodes: 0,
+            links: 0,
+            a: [0; MAX_LINKS],
+            b: [0; MAX_LINKS],
+            capacity: [0; MAX_LINKS],
+        },
+        tree: Tree {
+            parent: [0; MAX_NODES],
+            weight: [0; MAX_NODES],
+        },
+        steps: Steps {
+            pivot: [0; MAX_NODES],
+            side: [0; MAX_NODES],
+            value: [0; MAX_NODES],
+        },
+        stack: entries::empty(),
     }
 }
 
