@@ -1,22 +1,19 @@
 -- Pair and headroom: one law for each way through the code.
-use mathlib.Core.Path.{_≡_, refl, sym, ap}
+use mathlib.Core.Path.{_≡_, refl, ap}
 use mathlib.Core.Bool.{Bool, true, false, not, _&&_}
 use mathlib.Core.List.{List, [], _∷_}
-use Prim.Native.Nat.{ℕ, suc, _≤_, _<_}
+use Prim.Native.Nat.{ℕ, _≤_, _<_}
 use native.Mathlib.Omega.{arith}
-use lib.ListN.{length}
 use lib.Dec.{ltb, eqb}
-use lib.IntN.{ℤ, pos, _-ℤ_}
+use lib.IntN.{pos, _-ℤ_}
 use borrow.Author.Tests.{lt-ltb, le-ltb, not-false}
-use Rattle.network.specs.Checks.{Row, row, check, chain, accepted, Given, only}
+use Rattle.network.specs.Checks.{Row, row, check, chain, accepted}
 use Rattle.network.specs.Limits.{maxValue}
-use Rattle.max_flow.specs.LargestFlow.{LargestFlow}
-use Rattle.cut_tree.specs.Path.{pairRows, lightestOn, answer, queryOf, numberOf, weightOf}
+use Rattle.cut_tree.specs.Path.{lightestOn, answer, queryOf, numberOf, weightOf}
 use Rattle.cut_tree.specs.declared.PairAnswer.{PairAnswer}
 use Rattle.cut_tree.specs.declared.PairAnswer.the-variants.{Refused, Found}
 use Rattle.plan.specs.Plan.{sound}
-use Rattle.plan.specs.Calls.{maxDemand, unsound, pairNumber, pairOf, flowRows, flowNumber, Flowed, headroomBy, headroomNumber, headroomOf}
-use Rattle.plan.specs.ChecksLaws.{one-not-below}
+use Rattle.plan.specs.Calls.{maxDemand, nodeRows, pairNumber, pairOf, headroomBy, headroomNumber, headroomOf}
 use Rattle.plan.specs.SoundFacts.{sound-weight}
 use Rattle.plan.specs.CallParts.{refusedHeadroom}
 use Rattle.plan.specs.declared.Plan.{Plan}
@@ -70,7 +67,7 @@ module _ (p : Plan) (s t : ℕ) where
 
   module _ (w v side size : ℕ) (q : pairOf p s t ≡ Found w v side size) where
     by-pair : (later : List Row)
-        → (not (sound p) ≡ false) × (chain (unsound p ∷ pairRows (p .network .nodes) s t later) ≡ chain later) × (weightOf (answer (p .tree) (p .network .nodes) s t) ≡ w)
+        → (not (sound p) ≡ false) × (chain (nodeRows p s t later) ≡ chain later) × (weightOf (answer (p .tree) (p .network .nodes) s t) ≡ w)
     unfolding pairOf pairNumber
     by-pair later =
         let n = p .network .nodes in

@@ -1,15 +1,14 @@
 -- Opening, by what the file reads as; writing, by what writing the network gives.
 use mathlib.Core.Path.{_≡_, refl, sym, ap, _∙_}
 use mathlib.Core.Logic.{_≢_}
-use mathlib.Core.Bool.{Bool, true, false}
-use Prim.Native.Nat.{ℕ}
+use mathlib.Core.Bool.{true, false}
+use Prim.Native.Nat.{ℕ, zero, suc}
 use mathlib.Core.List.{List}
 use lib.ListN.{length}
-use lib.Dec.{ltb}
-use Rattle.network.specs.Checks.{check, accepted}
+use Rattle.network.specs.Checks.{accepted}
 use Rattle.network.specs.Network.{networkFits}
 use Rattle.network_file.specs.Reading.{readFile}
-use Rattle.network_file.specs.Writing.{fileOf, fileWriteOf, fileWrittenTo}
+use Rattle.network_file.specs.Writing.{fileOf, fileWriteNumber, fileWriteOf, fileWrittenTo}
 use Rattle.network_file.specs.FileLaws.{accepts}
 use Rattle.network_file.specs.declared.Reading.{Reading}
 use Rattle.network_file.specs.declared.FileWritten.{FileWritten}
@@ -37,6 +36,10 @@ module _ (file : List ℕ) (r : Reading) (e : r ≡ readFile file) where
 abbrev reply : FileWritten → Written
 reply w = record { number = w .number; length = w .length }
 
+by-reply : (e : ℕ) (x : FileWritten) (f : ℕ → FileWritten) → reply (accepted e x f) ≡ accepted e (reply x) (λ n. reply (f n))
+by-reply zero x f = refl
+by-reply (suc e) x f = refl
+
 module _ (p : Plan) where
   module _ (e : sound p ≡ false) where
     pub write-unsound : (size : ℕ) → writeOf p size ≡ record { number = 19; length = 0 }
@@ -50,11 +53,8 @@ module _ (p : Plan) where
   module _ (e : sound p ≡ true) where
     pub write-reply : (size : ℕ) (w : FileWritten) → w ≡ fileWriteOf (p .network) size → writeOf p size ≡ record { number = w .number; length = w .length }
     unfolding writeOf writeNumber fileWriteOf
-    write-reply size w q = rw (q, e) (go (ltb size (length (fileOf (p .network)))))
-      where
-        go : (b : Bool) → accepted (check b 18 0) (record { number = 0; length = length (fileOf (p .network)) }) (λ x. record { number = x; length = 0 }) ≡ reply (accepted (check b 18 0) (record { number = 0; length = length (fileOf (p .network)) }) (λ x. record { number = x; length = 0 }))
-        go true = refl
-        go false = refl
+    write-reply size w q =
+        rw (q, e) (sym (by-reply (fileWriteNumber (p .network) size) (record { number = 0; length = length (fileOf (p .network)) }) (λ x. record { number = x; length = 0 })))
 
     pub left-written : (buffer : List ℕ) → writtenTo p buffer ≡ fileWrittenTo (p .network) buffer
     unfolding writtenTo writeNumber fileWrittenTo

@@ -52,7 +52,8 @@ returns-2 c =
     let e = c .before .before .before .before .before in
     let p = e .before .before .args .p in
     let top = p .stack .depth - 1 in
-    c .altered .ensures ∙ ap (λ (x : Stack). altered p (at (p .stack .link) top) (at (p .stack .capacity) top) x) (c .before .pop .ensures) ∙ sym (undo-accepted _ _ (e .before .undo-number .ensures) (e .if1 .left))
+    c .altered .ensures ∙ ap (λ (x : Stack). altered p (at (p .stack .link) top) (at (p .stack .capacity) top) x) (c .before .pop .ensures)
+    ∙ sym (undo-accepted _ _ (e .before .undo-number .ensures) (e .if1 .left))
 
 pub undo-spec : {M : Type 1} → statement M
 undo-spec =
