@@ -1,5 +1,5 @@
 -- The calls of document 01 as functions on records, their refusals in the order of its table.
-use Prim.Native.Nat.{ℕ, zero, suc, _+_, _-_}
+use Prim.Native.Nat.{ℕ, _-_}
 use mathlib.Core.Path.{_≡_}
 use mathlib.Core.Logic.{_≢_}
 use mathlib.Core.Bool.{not}
@@ -19,17 +19,15 @@ use Rattle.network_file.specs.declared.Reading.{Reading}
 use Rattle.cut_tree.specs.Rule.{rule}
 use Rattle.cut_tree.specs.Rebuild.{rebuilt}
 use Rattle.cut_tree.specs.Path.{pairRows, answer, weightOf}
-use Rattle.cut_tree.specs.declared.Tree.{Tree}
-use Rattle.cut_tree.specs.declared.Built.{Built}
 use Rattle.cut_tree.specs.declared.PairAnswer.{PairAnswer}
-use Rattle.cut_tree.specs.declared.PairAnswer.the-variants.{Refused, Found}
+use Rattle.cut_tree.specs.declared.PairAnswer.the-variants.{Refused}
 use Rattle.plan.specs.Plan.{maxDepth, sound, push, pop, noStack, noPlan}
 use Rattle.text.specs.Text.{textWidth, textOf}
 use Rattle.plan.specs.declared.Stack.{Stack}
 use Rattle.plan.specs.declared.Plan.{Plan}
 use Rattle.plan.specs.declared.Opening.{Opening}
 use Rattle.plan.specs.declared.Changed.{Changed}
-use Rattle.plan.specs.declared.Headroom.{Headroom}
+use Rattle.plan.specs.declared.HeadroomReply.{HeadroomReply}
 use Rattle.plan.specs.declared.Written.{Written}
 
 -- the highest demand (the paper: need) of a headroom
@@ -91,15 +89,22 @@ unfoldable pub undoOf : Plan → Changed
 undoOf p = accepted (undoNumber p) (undone p) (unaltered p)
 
 -- ---- pair
+-- the checks of a call for two nodes, and those that come after them
+abbrev pub nodeRows : Plan → (s t : ℕ) → List Row → List Row
+nodeRows p s t later = unsound p ∷ pairRows (p .network .nodes) s t later
+
 unfoldable pub pairNumber : Plan → ℕ → ℕ → ℕ
-pairNumber p s t = chain (unsound p ∷ pairRows (p .network .nodes) s t [])
+pairNumber p s t = chain (nodeRows p s t [])
 
 unfoldable pub pairOf : Plan → ℕ → ℕ → PairAnswer
 pairOf p s t = accepted (pairNumber p s t) (answer (p .tree) (p .network .nodes) s t) Refused
 
 -- ---- flow
+abbrev pub flowRows : Plan → (s t size : ℕ) → List Row
+flowRows p s t size = nodeRows p s t (row (not (eqb size (p .network .links))) 16 ∷ [])
+
 unfoldable pub flowNumber : Plan → ℕ → ℕ → ℕ → ℕ
-flowNumber p s t size = chain (unsound p ∷ pairRows (p .network .nodes) s t (row (not (eqb size (p .network .links))) 16 ∷ []))
+flowNumber p s t size = chain (flowRows p s t size)
 
 -- what the flow call promises: its number, and the buffer before and after. Which lawful flow of that total it is, is left open.
 pub record Flowed (p : Plan) (s t : ℕ) (before : List ℤ) (number : ℕ) (behind : List ℤ) : Type 0 where
@@ -109,21 +114,27 @@ pub record Flowed (p : Plan) (s t : ℕ) (before : List ℤ) (number : ℕ) (beh
   pub untouched : number ≢ 0 → behind ≡ before
 
 -- ---- headroom
-unfoldable pub headroomNumber : Plan → ℕ → ℕ → ℕ → ℕ
-headroomNumber p s t demand = chain (unsound p ∷ pairRows (p .network .nodes) s t (row (ltb maxDemand demand) 17 ∷ []))
+abbrev pub headroomRows : Plan → (s t demand : ℕ) → List Row
+headroomRows p s t demand = nodeRows p s t (row (ltb maxDemand demand) 17 ∷ [])
 
-abbrev pub headroomBy : ℤ → Headroom
+unfoldable pub headroomNumber : Plan → ℕ → ℕ → ℕ → ℕ
+headroomNumber p s t demand = chain (headroomRows p s t demand)
+
+abbrev pub headroomBy : ℤ → HeadroomReply
 headroomBy z = record { number = 0; value = z; text = textOf z }
 
 -- the pair's weight less the demand; 0 and spaces beside a refusal
-unfoldable pub headroomOf : Plan → ℕ → ℕ → ℕ → Headroom
+unfoldable pub headroomOf : Plan → ℕ → ℕ → ℕ → HeadroomReply
 headroomOf p s t demand =
     accepted (headroomNumber p s t demand) (headroomBy (pos (weightOf (answer (p .tree) (p .network .nodes) s t)) -ℤ pos demand))
     (λ e. record { number = e; value = pos 0; text = replicate textWidth 32 })
 
 -- ---- writing: the reply, and the buffer behind it
+abbrev pub writeRows : Plan → ℕ → List Row
+writeRows p size = unsound p ∷ row (ltb size (length (fileOf (p .network)))) 18 ∷ []
+
 unfoldable pub writeNumber : Plan → ℕ → ℕ
-writeNumber p size = chain (unsound p ∷ row (ltb size (length (fileOf (p .network)))) 18 ∷ [])
+writeNumber p size = chain (writeRows p size)
 
 unfoldable pub writeOf : Plan → ℕ → Written
 writeOf p size =
