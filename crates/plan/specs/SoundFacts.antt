@@ -1,6 +1,6 @@
 -- What soundness says of the parts of a plan, as the layers below ask it.
-use mathlib.Core.Path.{_≡_, refl}
-use mathlib.Core.Bool.{true}
+use mathlib.Core.Path.{_≡_, refl, sym, ap, _∙_}
+use mathlib.Core.Bool.{Bool, true, not}
 use mathlib.Core.List.{List, [], _∷_}
 use Prim.Native.Nat.{ℕ, zero, suc, _≤_, _<_}
 use native.Mathlib.Omega.{arith}
@@ -8,7 +8,7 @@ use native.Mathlib.Decide.{decLt}
 use lib.ListN.{drop}
 use borrow.Author.Tests.{ltb-true, leb-true, eqb-true}
 use lib.Dec.{ltb, leb, eqb}
-use Rattle.network.specs.Basics.{at, all, blank}
+use Rattle.network.specs.Basics.{at, blank}
 use Rattle.network.specs.BasicsLaws.{and-l, and-r, all-at, shown, head, rest}
 use Rattle.network.specs.Limits.{maxCapacity, maxValue}
 use Rattle.network.specs.Network.{networkFits}
@@ -16,7 +16,7 @@ use Rattle.network.specs.NetworkLaws.{nodes-le}
 use Rattle.cut_tree.specs.Path.{maxClimb, reaches}
 use Rattle.cut_tree.specs.QueryParts.{Climbs}
 use Rattle.cut_tree.specs.declared.Tree.{Tree}
-use Rattle.plan.specs.Plan.{maxDepth, treeFits, stepsFit, entryFits, stackFits, sound}
+use Rattle.plan.specs.Plan.{maxDepth, treeFits, entryFits, stackFits, sound}
 use Rattle.plan.specs.declared.Plan.{Plan}
 
 -- an unused place holds 0
@@ -40,6 +40,10 @@ module _ (n : ℕ) (tree : Tree) (e : treeFits n tree ≡ true) where
       go (yes l) = leb-true _ _ (all-at n (λ i. leb (at (tree .weight) i) maxValue) (head (rest (rest (rest (shown _ e))))) i l)
       go (no l) = omega (arith, blank-above n (tree .weight) (head (rest (rest (rest (rest (rest (rest (shown _ e)))))))) i (omega arith))
 
+-- row 19 of a plan whose soundness x was answered with r
+pub sound-row : {x r b : Bool} → r ≡ x → not r ≡ b → not x ≡ b
+sound-row e n = ap not (sym e) ∙ n
+
 module _ (p : Plan) (e : sound p ≡ true) where
   pub sound-network : networkFits (p .network) ≡ true
   unfolding sound
@@ -61,10 +65,6 @@ module _ (p : Plan) (e : sound p ≡ true) where
 
   pub sound-weight : (i : ℕ) → at (p .tree .weight) i ≤ maxValue
   sound-weight = tree-weight (p .network .nodes) (p .tree) tree-fits
-
-  pub sound-steps : stepsFit (p .network .nodes) (p .steps) ≡ true
-  unfolding sound
-  sound-steps = head (rest (rest (shown _ e)))
 
   stack-fits : stackFits (p .network .links) (p .stack) ≡ true
   unfolding sound
