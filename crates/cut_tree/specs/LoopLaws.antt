@@ -54,7 +54,8 @@ module _ (net : Network) (steps : Steps) (h : Change) (b : Built) (s : ℕ) (g :
   pub going-parent : (i : ℕ) → at (b .tree .parent) i < s
   going-parent i = let l = g .low in rw (g .made) (omega (arith, parents-le (cut net steps h) (s - 1) i))
 
-  more : (i : ℕ) → b ≡ ruleBy (cut net steps h) i → stepped b (suc i) (at (b .tree .parent) (suc i)) (cut net steps h (suc i) (at (b .tree .parent) (suc i))) ≡ ruleBy (cut net steps h) (suc i)
+  more : (i : ℕ) → b ≡ ruleBy (cut net steps h) i
+      → stepped b (suc i) (at (b .tree .parent) (suc i)) (cut net steps h (suc i) (at (b .tree .parent) (suc i))) ≡ ruleBy (cut net steps h) (suc i)
   unfolding ruleBy
   more i e = rw e refl
 
@@ -89,7 +90,8 @@ never-kept : (net : Network) (steps : Steps) (h : Change) (s t : ℕ) → at (st
 unfolding taken keptBy
 never-kept net steps h s t n = rw (ne-eqb (at (steps .pivot) s) t n)
 
-pub built-is : (net : Network) (steps : Steps) (h : Change) → net .nodes ≤ maxNodes → ((s : ℕ) → s < maxNodes → maxNodes ≤ at (steps .pivot) s) → workedOut net steps h ≡ rule net
+pub built-is : (net : Network) (steps : Steps) (h : Change) → net .nodes ≤ maxNodes
+    → ((s : ℕ) → s < maxNodes → maxNodes ≤ at (steps .pivot) s) → workedOut net steps h ≡ rule net
 unfolding workedOut rule
 built-is net steps h l none =
     rule-ext (cut net steps h) (leastCut net) (net .nodes - 1) (λ s t tl sl. never-kept net steps h s t (λ e. omega (arith, none s (omega arith))))

@@ -85,7 +85,8 @@ module _ (weight : List ℕ) where
   from-some v [] n e = refl
   from-some v (x ∷ xs) n e = rw (ne-eqb v 0 n) (go (eqb 0 x) refl e (ltb (at weight x) (at weight v)) (λ w m. from-some w xs m))
     where
-      go : (z : Bool) → eqb 0 x ≡ z → pick z true (among 0 xs) ≡ false → (l : Bool) → ((w : ℕ) → (w ≡ 0 → ⊥) → among 0 xs ≡ false → lightestFrom weight w xs ≡ lightest weight w xs)
+      go : (z : Bool) → eqb 0 x ≡ z → pick z true (among 0 xs) ≡ false → (l : Bool)
+          → ((w : ℕ) → (w ≡ 0 → ⊥) → among 0 xs ≡ false → lightestFrom weight w xs ≡ lightest weight w xs)
           → lightestFrom weight (pick l x v) xs ≡ lightest weight (pick l x v) xs
       go true q f l ih = absurd (true≢false f)
       go false q f true ih = ih x (λ m. eqb-false 0 x q (sym m)) f
@@ -127,19 +128,24 @@ unfolding lightestOn path
 lightest-both tree s t first e =
     let up = climb (tree .parent) maxClimb s in
     let down = climb (tree .parent) maxClimb t in
-    rw e (sym (from-append (tree .weight) 0 (without down up) (reverse (without up down)))) ∙ from-none (tree .weight) (path (tree .parent) s t) (path-nonzero (tree .parent) s t)
+    rw e (sym (from-append (tree .weight) 0 (without down up) (reverse (without up down))))
+    ∙ from-none (tree .weight) (path (tree .parent) s t) (path-nonzero (tree .parent) s t)
 
 module _ (tree : Tree) (s t : ℕ) (h : Pair (tree .parent) s t) where
   abbrev ps : List ℕ
   ps = tree .parent
 
   -- a climb from i stops at the nodes of the climb from j
-  stops : (i j z x : ℕ) → reaches ps maxClimb j ≡ true → z ≡ empty → x ≡ addedAll z (climb ps maxClimb j) → climbTo x ps maxClimb i ≡ without (climb ps maxClimb j) (climb ps maxClimb i)
+  stops : (i j z x : ℕ) → reaches ps maxClimb j ≡ true → z ≡ empty → x ≡ addedAll z (climb ps maxClimb j)
+      → climbTo x ps maxClimb i ≡ without (climb ps maxClimb j) (climb ps maxClimb i)
   stops i j z x r d e =
-      climbTo-without ps (climb ps maxClimb j) x (λ v. rw (e, d, holds-addedAll empty (climb ps maxClimb j) v, holds-empty v)) (λ v m n. climb-closed ps maxClimb j v r m n) maxClimb i
+      climbTo-without ps (climb ps maxClimb j) x (λ v. rw (e, d, holds-addedAll empty (climb ps maxClimb j) v, holds-empty v))
+      (λ v m n. climb-closed ps maxClimb j v r m n) maxClimb i
 
-  module _ (z x y first r : ℕ) (d : z ≡ empty) (ex : x ≡ addedAll z (climb ps maxClimb s)) (f : ℕ) (g : f ≡ empty) (ey : y ≡ addedAll f (climb ps maxClimb t))
-      (ef : first ≡ lightestFrom (tree .weight) 0 (climbTo y ps maxClimb s)) (er : r ≡ lightestFrom (tree .weight) first (reverse (climbTo x ps maxClimb t))) where
+  module _ (z x y first r : ℕ) (d : z ≡ empty) (ex : x ≡ addedAll z (climb ps maxClimb s))
+      (f : ℕ) (g : f ≡ empty) (ey : y ≡ addedAll f (climb ps maxClimb t))
+      (ef : first ≡ lightestFrom (tree .weight) 0 (climbTo y ps maxClimb s))
+      (er : r ≡ lightestFrom (tree .weight) first (reverse (climbTo x ps maxClimb t))) where
     pub lightest-on : r ≡ lightestOn tree s t
     lightest-on = er ∙ rw (stops t s z x (h .rooted-s) d ex) (lightest-both tree s t first (ef ∙ rw (stops s t f y (h .rooted-t) g ey) refl))
 

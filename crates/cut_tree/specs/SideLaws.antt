@@ -40,14 +40,18 @@ module _ (parent : List ℕ) (v x i left j : ℕ) (h : Known parent v x i left j
   through-known l = h .known j l ∙ ap (among v) (climb-enough parent left maxClimb j (h .short) (h .rooted))
 
   pub known-next : (j ≡ 0 → ⊥) → (left ≡ 0 → ⊥) → Known parent v x i (left - 1) (at parent j)
-  known-next n e = let s = h .short in record { inside = inside-next (h .inside); rooted = sym (reaches-on parent left j n e) ∙ h .rooted; short = omega arith; known = h .known }
+  known-next n e =
+      let s = h .short in
+      record { inside = inside-next (h .inside); rooted = sym (reaches-on parent left j n e) ∙ h .rooted; short = omega arith; known = h .known }
 
 -- ---- a word that grows
 word-ext : (n : ℕ) (X Y : Side) → ((i : ℕ) → i < n → X i ≡ Y i) → word n X ≡ word n Y
 word-ext n X Y h = same-bits n (word n X) (word n Y) (word-lt n X) (word-lt n Y) (λ i l. word-holds n X i l ∙ h i l ∙ sym (word-holds n Y i l))
 
 pub word-more : (i : ℕ) (X : Side) → addedIf (X i) (word i X) i ≡ word (suc i) X
-word-more i X = same-bits (suc i) (addedIf (X i) (word i X) i) (word (suc i) X) (below (X i)) (word-lt (suc i) X) (λ k l. go (X i) refl k l (ℕ-discrete k i) ∙ sym (word-holds (suc i) X k l))
+word-more i X =
+    same-bits (suc i) (addedIf (X i) (word i X) i) (word (suc i) X) (below (X i)) (word-lt (suc i) X)
+    (λ k l. go (X i) refl k l (ℕ-discrete k i) ∙ sym (word-holds (suc i) X k l))
   where
     small : word i X < 2 ^ suc i
     small = omega (arith, word-lt i X, pow-lt {i = i} {j = suc i} (omega arith))
@@ -90,15 +94,24 @@ module _ (parent : List ℕ) (n v s x : ℕ) (l : s < n) (e : x ≡ word n (unde
 
   pub side-with : holds x s ≡ true → x ≡ sideOf parent n v s
   unfolding sideOf
-  side-with h = rw (e, at-s true h) (word-ext n (under parent v) (λ i. not (differ (under parent v i) true)) (λ i m. bool1 (λ b. b ≡ not (differ b true)) (refl, refl) (under parent v i)))
+  side-with h =
+      rw (e, at-s true h)
+      (word-ext n (under parent v) (λ i. not (differ (under parent v i) true)) (λ i m. bool1 (λ b. b ≡ not (differ b true)) (refl, refl) (under parent v i)))
 
   pub side-without : holds x s ≡ false → complementIn n x ≡ sideOf parent n v s
   unfolding sideOf
-  side-without h = same-bits n (complementIn n x) (sideOf parent n v s) (complementIn-lt n x small) (word-lt n _)
-      (λ i m. holds-complementIn n x i small ∙ rw (lt-ltb i n m, e, at-s false h) (ap not (word-holds n (under parent v) i m) ∙ flip (under parent v i) ∙ sym (word-holds n (λ k. not (differ (under parent v k) false)) i m)))
+  side-without h =
+      same-bits n (complementIn n x) (sideOf parent n v s) (complementIn-lt n x small) (word-lt n _)
+      (λ i m. holds-complementIn n x i small ∙ rw (lt-ltb i n m, e, at-s false h) (each i m))
     where
       small : x < 2 ^ n
       small = rw e (word-lt n (under parent v))
 
       flip : (b : Bool) → not b ≡ not (differ b false)
       flip = bool1 (λ b. not b ≡ not (differ b false)) (refl, refl)
+
+      other : Side
+      other k = not (differ (under parent v k) false)
+
+      each : (i : ℕ) → i < n → not (holds (word n (under parent v)) i) ≡ holds (word n other) i
+      each i m = ap not (word-holds n (under parent v) i m) ∙ flip (under parent v i) ∙ sym (word-holds n other i m)

@@ -58,16 +58,17 @@ lightest-down-requires t c κs =
 lighter-requires : (t : ℕ) → lts.Need-lighter-requires (claims t) (start t) this.Post
 lighter-requires t c κs =
     let st = c .before .before .before .before .before .before in
-    let a = st .args in (
-      omega (arith, c .lightest-down .ensures, down-below (a .parent .now) (a .stop) (a .weight .now) (a .left - 1) (getD (a .parent .now) (a .i) 0) (a .best) (inside-next (st .pre .1 .0)) (st .pre .1 .1)),
-      inside-lt (st .pre .1 .0),
-    )
+    let a = st .args in
+    let up = getD (a .parent .now) (a .i) 0 in
+    let below = down-below (a .parent .now) (a .stop) (a .weight .now) (a .left - 1) up (a .best) (inside-next (st .pre .1 .0)) (st .pre .1 .1) in
+    (omega (arith, c .lightest-down .ensures, below), inside-lt (st .pre .1 .0))
 
 returns-4 : (t : ℕ) → lts.Need-returns-4 (claims t) (start t) this.Post
 returns-4 t c =
     let o = c .before .before .before in
     let e = o .before .before in
-    down-on _ _ _ _ _ _ _ (climbTo-on _ _ _ _ (e .before .if1 .left) (sym (o .before .contains .ensures) ∙ o .if3 .left) (e .if2 .left)) (c .before .lightest-down .ensures) (c .lighter .ensures)
+    down-on _ _ _ _ _ _ _ (climbTo-on _ _ _ _ (e .before .if1 .left) (sym (o .before .contains .ensures) ∙ o .if3 .left) (e .if2 .left))
+    (c .before .lightest-down .ensures) (c .lighter .ensures)
 
 pub +lightest-down-spec : {M : Type 1} → statement M
 +lightest-down-spec = close μ λ t. lts.spec (claims t) (start t) this.Post

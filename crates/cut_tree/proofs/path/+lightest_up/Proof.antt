@@ -1,6 +1,7 @@
 -- Each return is a way through `climbTo`; the count that is left falls.
 use mathlib.Core.Path.{sym, _∙_}
 use native.Mathlib.Omega.{arith}
+use Rattle.network.specs.Limits.{maxNodes}
 use Rattle.cut_tree.specs.ClimbLaws.{inside-lt, inside-next, climbTo-end, climbTo-none, climbTo-stop, climbTo-on}
 use Rattle.cut_tree.specs.QueryLaws.{up-none, up-on, lighter-below}
 use Prim.Native.Nat.{ℕ, _<_}
@@ -57,13 +58,16 @@ lighter-requires t c κs =
 lightest-up-requires : (t : ℕ) → lts.Need-lightest-up-requires (claims t) (start t) this.Post
 lightest-up-requires t c κs =
     let st = c .before .before .before .before .before .before in
-    (omega arith, (inside-next (st .pre .1 .0), omega (arith, c .lighter .ensures, lighter-below (st .args .weight .now) 64 (st .args .best) (st .args .i) (st .pre .1 .1) (inside-lt (st .pre .1 .0)))))
+    let a = st .args in
+    let below = lighter-below (a .weight .now) maxNodes (a .best) (a .i) (st .pre .1 .1) (inside-lt (st .pre .1 .0)) in
+    (omega arith, (inside-next (st .pre .1 .0), omega (arith, c .lighter .ensures, below)))
 
 returns-4 : (t : ℕ) → lts.Need-returns-4 (claims t) (start t) this.Post
 returns-4 t c =
     let o = c .before .before .before in
     let e = o .before .before in
-    up-on _ _ _ _ _ _ _ (climbTo-on _ _ _ _ (e .before .if1 .left) (sym (o .before .contains .ensures) ∙ o .if3 .left) (e .if2 .left)) (c .before .lighter .ensures) (c .lightest-up .ensures)
+    up-on _ _ _ _ _ _ _ (climbTo-on _ _ _ _ (e .before .if1 .left) (sym (o .before .contains .ensures) ∙ o .if3 .left) (e .if2 .left))
+    (c .before .lighter .ensures) (c .lightest-up .ensures)
 
 pub +lightest-up-spec : {M : Type 1} → statement M
 +lightest-up-spec = close μ λ t. lts.spec (claims t) (start t) this.Post

@@ -25,14 +25,17 @@ lightest-down-requires : tie.Need-lightest-down-requires
 lightest-down-requires c κs =
     let st = c .before .before .before .before .before in
     let a = st .args in
-    (st .pre .to, omega (arith, c .lightest-up .ensures, up-below (a .parent .now) (c .before .ancestors2 .result) (a .weight .now) maxClimb (a .s) 0 (st .pre .from) (omega arith)))
+    let below = up-below (a .parent .now) (c .before .ancestors2 .result) (a .weight .now) maxClimb (a .s) 0 (st .pre .from) (omega arith) in
+    (st .pre .to, omega (arith, c .lightest-up .ensures, below))
 
 returns : tie.Need-returns
 returns c =
     let u = c .before .before in
     let v = u .before .before in
     let a = v .before .before .args in
-    lightest-on (record { parent = a .parent .now; weight = a .weight .now }) _ _ (v .before .before .pre) _ _ _ _ _ (v .before .empty .ensures) (v .ancestors .ensures) _ (u .before .empty2 .ensures) (u .ancestors2 .ensures) (c .before .lightest-up .ensures) (c .lightest-down .ensures)
+    lightest-on (record { parent = a .parent .now; weight = a .weight .now }) _ _ (v .before .before .pre) _ _ _ _ _
+    (v .before .empty .ensures) (v .ancestors .ensures) _ (u .before .empty2 .ensures) (u .ancestors2 .ensures)
+    (c .before .lightest-up .ensures) (c .lightest-down .ensures)
 
 pub lightest-on-spec : {M : Type 1} → statement M
 lightest-on-spec =

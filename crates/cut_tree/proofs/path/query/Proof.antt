@@ -1,6 +1,7 @@
 -- Each return is a row of the checks, or the answer.
 use Prim.Native.Nat.{_<_}
 use native.Mathlib.Omega.{arith}
+use Rattle.network.specs.Limits.{maxNodes}
 use Rattle.cut_tree.specs.QueryLaws.{refused-s, refused-t, refused-same, answered, pair-climbs, lightestOn-below}
 use borrow.Author.Needs.{needs}
 use Rattle.cut_tree.proofs.path.query.Statement.{statement}
@@ -25,12 +26,14 @@ side-of-requires : tie.Need-side-of-requires
 side-of-requires c κs = search needs
 
 -- what is found is a node
-found : (c : tie.After-side-of) → c .before .before .lightest-on .result < 64
+found : (c : tie.After-side-of) → c .before .before .lightest-on .result < maxNodes
 found c =
     let o = c .before .before in
     let e = o .before .before .before .before .before .before in
     let st = e .before .before in
-    omega (arith, o .lightest-on .ensures, lightestOn-below (st .args .tree) (st .args .s) (st .args .t) (pair-climbs (st .args .tree) (st .args .n) (st .args .s) (st .args .t) (st .pre) (e .before .if1 .left) (e .if2 .left)))
+    let a = st .args in
+    let pair = pair-climbs (a .tree) (a .n) (a .s) (a .t) (st .pre) (e .before .if1 .left) (e .if2 .left) in
+    omega (arith, o .lightest-on .ensures, lightestOn-below (a .tree) (a .s) (a .t) pair)
 
 mul-w : tie.Need-mul-w
 mul-w c = omega (arith, found c)
@@ -47,7 +50,8 @@ returns-4 c =
     let o = x .before .before in
     let e = o .before .before .before .before .before in
     let st = e .before .before .before in
-    answered (st .args .tree) _ _ _ (e .before .before .if1 .left) (e .before .if2 .left) (e .if3 .left) _ _ _ (o .lightest-on .ensures) (x .side-of .ensures) (c .size .ensures)
+    answered (st .args .tree) _ _ _ (e .before .before .if1 .left) (e .before .if2 .left) (e .if3 .left)
+    _ _ _ (o .lightest-on .ensures) (x .side-of .ensures) (c .size .ensures)
 
 pub query-spec : {M : Type 1} → statement M
 query-spec =

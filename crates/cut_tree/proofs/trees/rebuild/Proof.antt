@@ -2,6 +2,7 @@
 use mathlib.Core.Path.{_∙_}
 use Prim.Native.Nat.{_<_}
 use native.Mathlib.Omega.{arith}
+use Rattle.network.specs.Limits.{maxLinks}
 use Rattle.network.specs.Network.{Sized}
 use Rattle.network.specs.NetworkLaws.{nodes-le, links-le, ends-within, change-fits}
 use Rattle.cut_tree.specs.LoopLaws.{rebuilt-is}
@@ -9,7 +10,7 @@ use borrow.Author.Needs.{needs}
 use Rattle.cut_tree.proofs.trees.rebuild.Statement.{statement}
 use Rattle.cut_tree.proofs.trees.rebuild.Tie as tie
 
-link : (c : tie.Start) → c .args .k < 256
+link : (c : tie.Start) → c .args .k < maxLinks
 link c = omega (arith, c .pre .link, links-le (c .args .net) (c .pre .fits))
 
 sized : (c : tie.Start) → Sized (c .args .net)

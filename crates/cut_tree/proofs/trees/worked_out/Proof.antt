@@ -3,6 +3,7 @@ use Prim.Native.Nat.{ℕ, _-_, _<_}
 use native.Mathlib.Omega.{arith}
 use borrow.Author.Needs.{needs}
 use lib.ListN.{getD}
+use Rattle.network.specs.Limits.{maxNodes}
 use Rattle.network.specs.NetworkLaws.{nodes-le}
 use Rattle.cut_tree.specs.LoopLaws.{Going, going-start, going-parent, going-count, going-next, going-end}
 use Rattle.cut_tree.proofs.trees.worked_out.Statement.{statement}
@@ -15,7 +16,7 @@ abbrev μ-loop : tie.MeasureT-loop
 μ-loop net h steps n arcs near b₀ s₀ b s = n - s
 
 -- s is a node, and so are all parents
-node : (c : tie.In-loop Inv-loop μ-loop) → c .before .loop .s < 64
+node : (c : tie.In-loop Inv-loop μ-loop) → c .before .loop .s < maxNodes
 node c =
     let st = c .before .before .before .before .before in
     omega (arith, c .loop-test .taken, nodes-le (st .args .net) (st .pre .0))
@@ -62,10 +63,12 @@ element-copy-out-t28 c = omega (arith, node (c .before .before .before .before))
 take-requires : tie.Need-take-requires Inv-loop μ-loop
 take-requires c κs =
     let i = c .before .before .before .before .before in
-    let a = i .before .before .before .before in (
+    let a = i .before .before .before .before in
+    let less = pivot i (i .before .loop .s) in
+    let on = i .loop-test .taken in (
       a .before .pre .1,
       record {
-        ends = record { fits = a .before .pre .0; source = i .loop-test .taken; sink = omega (arith, i .loop-test .taken, pivot i (i .before .loop .s)); apart = λ e. omega (arith, e, pivot i (i .before .loop .s)) };
+        ends = record { fits = a .before .pre .0; source = on; sink = omega (arith, on, less); apart = λ e. omega (arith, e, less) };
         chains = a .incidence-of .ensures;
       },
     )
