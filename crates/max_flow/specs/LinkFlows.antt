@@ -36,7 +36,7 @@ linkFlows capacity r f = linkFlowsUpTo capacity r f (length f)
 pub record Moderate (capacity : List ℕ) (r : List (List ℕ)) (m : ℕ) : Type 0 where
   pub links : m ≤ maxLinks
   pub capacities : (k : ℕ) → k < m → at capacity k ≤ maxCapacity
-  pub residuals : (k : ℕ) → k < m → ahead r k ≤ 2 * maxCapacity
+  pub residuals : (k : ℕ) → k < m → ahead r k + back r k ≤ 2 * maxCapacity
 
 module _ (capacity : List ℕ) (r : List (List ℕ)) (f : List ℤ) where
   pub flows-long : (k : ℕ) → length (linkFlowsUpTo capacity r f k) ≡ length f

@@ -11,9 +11,10 @@ use network::MAX_LINKS;
 use network::MAX_NODES;
 use network::Network;
 use network::incidence_of;
-ghost use lib.IntN.{pos};
+ghost use lib.IntN.{pos, _-ℤ_};
 ghost use lib.ListN.{length};
 ghost use mathlib.Core.Path.{_≡_};
+ghost use Prim.Native.Nat.{_^_, _<_};
 ghost use Rattle.max_flow.specs.LargestFlow.{LargestFlow};
 ghost use Rattle.max_flow.specs.LeastCut.{Endpoints, leastCutOf};
 ghost use Rattle.max_flow.specs.LinkFlows.{Moderate, linkFlows};
@@ -50,7 +51,15 @@ pub fn least_min_cut(net: Network, s: usize, t: usize) -> Cut
     least_cut_by(net, arcs, near, s, t)
 }
 
-// What each link carries, positive from a to b: its capacity less what is left of it that way.
+// what a link of capacity c carries, positive from a to b, where `left` is left of it that way
+fn carried(c: u32, left: u32) -> i32
+    requires { ⌜ (c < 2 ^ 31) × (left < 2 ^ 31) ⌝ }
+    ensures { λ r. ⌜ r ≡ pos c -ℤ pos left ⌝ }
+{
+    c as i32 - left as i32
+}
+
+// What each link carries is written to its place.
 fn write_flow(capacity: [u32; MAX_LINKS], residual: [[u32; 2]; MAX_LINKS], out: &mut [i32])
     requires { ⌜ Moderate capacity residual (length (now out)) ⌝ }
     ensures { λ _. ⌜ now (out .exit) ≡ linkFlows capacity residual (now (out .entry)) ⌝ }
@@ -59,7 +68,7 @@ fn write_flow(capacity: [u32; MAX_LINKS], residual: [[u32; 2]; MAX_LINKS], out: 
     for k in 0..m {
         let c = capacity[k];
         let left = residual[k][0];
-        out[k] = c as i32 - left as i32;
+        out[k] = carried(c, left);
     }
 }
 

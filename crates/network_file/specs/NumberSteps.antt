@@ -54,11 +54,11 @@ seen-small most t b (sees-two h) = record { value = one-le-pow most 128 (omega a
 seen-small most t b (sees-three h) = record { value = one-le-pow most 128 (omega arith); size = omega arith }
 seen-small most t b (sees-value g l) = record { value = again g b most l .small; size = l }
 
-pub rest-small : (left : ℕ) (s : List ℕ) → Bytes s → left ≤ maxGroups → Small maxGroups (readGroups (left - 1) (take (length s - 1) (drop 1 s)))
+pub rest-small : (left : ℕ) (s : List ℕ) → Bytes s → left ≤ maxGroups → Small (maxGroups - 1) (readGroups (left - 1) (take (length s - 1) (drop 1 s)))
 rest-small left s b l =
     let rest : Bytes (drop 1 s) = λ i. rw getD-drop (b (1 + i)) in
     let h = seen-small (left - 1) (drop 1 s) rest (seen (left - 1) (drop 1 s)) in
-    let p : 128 ^ (left - 1) ≤ 128 ^ maxGroups = pow-le-pow-right {n = 128} (omega arith) {i = left - 1} {j = maxGroups} (omega arith) in
+    let p : 128 ^ (left - 1) ≤ 128 ^ (maxGroups - 1) = pow-le-pow-right {n = 128} (omega arith) {i = left - 1} {j = maxGroups - 1} (omega arith) in
     rw (rest-is s 1) (record { value = lt-of-lt-of-le (h .value) p; size = omega (arith, h .size) })
 
 -- ---- writing

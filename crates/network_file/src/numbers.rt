@@ -4,13 +4,13 @@ use network::MAX_GROUPS;
 ghost use lib.ListN.{length};
 ghost use lib.Seq.{sets};
 ghost use mathlib.Core.Path.{_≡_};
-ghost use Prim.Native.Nat.{_+_, _^_, _≤_, _<_};
+ghost use Prim.Native.Nat.{_+_, _-_, _^_, _≤_, _<_};
 ghost use Rattle.network.specs.Limits.{maxGroups};
 ghost use Rattle.network_file.specs.Number.{continued, readGroups, readNumber, groupBytes, numberBytes, valueIn, sizeIn};
 
 // The number that byte x, with its top bit set, begins, by what stands behind x.
 fn continued_by(x: u8, rest: Number) -> Number
-    requires { ⌜ (128 ≤ x) × (valueIn rest < 128 ^ maxGroups) × (sizeIn rest ≤ maxGroups) ⌝ }
+    requires { ⌜ (128 ≤ x) × (valueIn rest < 128 ^ (maxGroups - 1)) × (sizeIn rest < maxGroups) ⌝ }
     ensures { λ r. ⌜ r ≡ continued x rest ⌝ }
 {
     match rest {

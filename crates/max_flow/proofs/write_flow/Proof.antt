@@ -5,13 +5,14 @@ use borrow.Author.Needs.{needs}
 use mathlib.Core.Path.{_≡_, ap, _∙_}
 use native.Mathlib.Numerals.{add-one}
 use lib.ListN.{length}
-use borrow.Author.Needs.{sfits-of, scaled-fits}
 use lib.Dec.{lit<}
+use borrow.Author.Needs.{scaled-fits}
+use mir.Facts.{toZ-ofZ}
+use mir.Syntax.{w32}
 use Rattle.network.specs.Basics.{at}
 use Rattle.network.specs.Limits.{maxLinks, maxCapacity}
-use Rattle.max_flow.specs.Residuals.{ahead}
+use Rattle.max_flow.specs.Residuals.{ahead, back}
 use Rattle.max_flow.specs.LinkFlows.{linkFlowsUpTo, flows-long}
-use Rattle.max_flow.specs.Signed.{difference-fits, difference-is}
 use Rattle.max_flow.proofs.write_flow.Statement.{statement}
 use Rattle.max_flow.proofs.write_flow.Tie as tie
 
@@ -24,12 +25,13 @@ abbrev μ-loop : tie.MeasureT-loop
 link-lt : (c : tie.In-loop Inv-loop μ-loop) → c .before .loop .k < maxLinks
 link-lt c = omega (arith, c .before .before .pre .links)
 
--- the capacity and what is left of it fit an i32
-small : (c : tie.In-loop Inv-loop μ-loop) → (at (c .before .before .args .t1) (c .before .loop .k) < 2 ^ 31) × (ahead (c .before .before .args .t2) (c .before .loop .k) < 2 ^ 31)
+-- the capacity and what is left of it are small
+small : (c : tie.In-loop Inv-loop μ-loop)
+    → (at (c .before .before .args .t1) (c .before .loop .k) ≤ maxCapacity) × (ahead (c .before .before .args .t2) (c .before .loop .k) + back (c .before .before .args .t2) (c .before .loop .k) ≤ 2 * maxCapacity)
 small c =
     let k = c .before .loop .k in
     let pre = c .before .before .pre in
-    (omega (arith, pre .capacities k (c .loop-test .taken)), omega (arith, pre .residuals k (c .loop-test .taken)))
+    (pre .capacities k (c .loop-test .taken), pre .residuals k (c .loop-test .taken))
 
 long : (c : tie.At-loop Inv-loop μ-loop) → length (c .loop .out) ≡ length (c .before .args .out .now)
 long c = ap length (c .loop .inv .1) ∙ flows-long (c .before .args .t1) (c .before .args .t2) (c .before .args .out .now) (c .loop .k)
@@ -53,20 +55,14 @@ index-1-left c = link-lt c
 index-2-left : tie.Need-index-2-left Inv-loop μ-loop
 index-2-left c = omega arith
 
-cast-out : tie.Need-cast-out Inv-loop μ-loop
-cast-out c = sfits-of (small (c .before) .0)
-
-cast-out-2 : tie.Need-cast-out-2 Inv-loop μ-loop
-cast-out-2 c = sfits-of (small (c .before) .1)
-
-sub-out : tie.Need-sub-out Inv-loop μ-loop
-sub-out c = difference-fits _ _ (small (c .before) .0) (small (c .before) .1)
+carried-requires : tie.Need-carried-requires Inv-loop μ-loop
+carried-requires c κs = (omega (arith, small (c .before)), omega (arith, small (c .before)))
 
 mul-t11 : tie.Need-mul-t11 Inv-loop μ-loop
-mul-t11 c = scaled-fits _ _ _ (link-lt (c .before)) (lit< tt)
+mul-t11 c = scaled-fits _ _ _ (link-lt (c .before .before)) (lit< tt)
 
 slice-set-from-out : tie.Need-slice-set-from-out Inv-loop μ-loop
-slice-set-from-out c = omega (arith, long (c .before .before))
+slice-set-from-out c = omega (arith, long (c .before .before .before))
 
 add-k : tie.Need-add-k Inv-loop μ-loop
 add-k c = omega arith
@@ -76,7 +72,9 @@ loop-less c = omega arith
 
 loop-again : tie.Need-loop-again Inv-loop μ-loop
 unfolding linkFlowsUpTo
-loop-again c = (omega arith, rw (add-one, difference-is _ _ (small (c .before) .0) (small (c .before) .1), ← c .before .before .loop .inv .1))
+loop-again c =
+    let value = toZ-ofZ {w = w32} (record { sfits = c .carried .ok }) ∙ c .carried .ensures in
+    (omega arith, rw (add-one, value, ← c .before .before .before .loop .inv .1))
 
 same-length : tie.Need-same-length Inv-loop μ-loop
 same-length c = long (c .before)
@@ -99,9 +97,7 @@ write-flow-spec =
     mul-left
     index-1-left
     index-2-left
-    cast-out
-    cast-out-2
-    sub-out
+    carried-requires
     mul-t11
     slice-set-from-out
     add-k

@@ -59,7 +59,7 @@ fresh c =
     record {
       amount = c .lesser .result;
       most = c .lesser .ensures;
-      some = c .before .before .before .if2 .taken;
+      some = omega (arith, c .before .before .before .if2 .taken);
       new = new-at (c .before .before .before .before .before);
       tree = ap (grownBy (l .tree) (l .p) (l .e - 1) (at (c .before .before .before .before .before .before .before .before .before .before .before .before .before .before .before .before .args .to .now) (l .e - 1)) (c .lesser .result)) (c .before .before .add .ensures);
     }

@@ -5,7 +5,7 @@ use Rattle.network.specs.Limits.{maxGroups}
 use Rattle.network_file.specs.Number.{continued}
 use Rattle.network_file.specs.NumberSteps.{at-most-none, at-nothing, at-last, at-more, Small, rest-small}
 use borrow.Author.Needs.{needs}
-use Prim.Native.Nat.{ℕ, _<_}
+use Prim.Native.Nat.{ℕ, _-_, _<_}
 use borrow.Fn.Kinds.{In}
 use borrow.Fn.PlainCycle.{Measures, is, falls, and}
 use Rattle.network_file.proofs.numbers.read_groups.Reads as read-groups
@@ -126,8 +126,8 @@ read-groups-continued-by-requires : (t : ℕ) → read-groups-lts.Need-continued
 read-groups-continued-by-requires t c κs =
     let st = c .before .before .before .before .before .before .before in
     let h = rest-small (st .args .left) (st .args .s .now) (λ i. omega (arith, c .before .before .before .shared-slice-known2 .given i)) (st .pre .1) in
-    let rest : Small maxGroups (c .read-groups .result) = subst (Small maxGroups) (sym (c .read-groups .ensures)) h in
-    (c .before .before .if3 .left, rest .value, rest .size)
+    let rest : Small (maxGroups - 1) (c .read-groups .result) = subst (Small (maxGroups - 1)) (sym (c .read-groups .ensures)) h in
+    (c .before .before .if3 .left, rest .value, omega (arith, rest .size))
 
 -- src/numbers.rt:28:1
 read-groups-returns-4 : (t : ℕ) → read-groups-lts.Need-returns-4 (
