@@ -1,4 +1,4 @@
-// Pairs and headrooms.
+// Pairs and headrooms (document 01, "Pair, flow, writing" and "Headroom").
 use crate::HeadroomReply;
 use crate::Plan;
 use crate::sound::is_sound;
@@ -10,8 +10,10 @@ ghost use Rattle.network.specs.Limits.{maxValue};
 ghost use Rattle.plan.specs.CallParts.{refusedHeadroom};
 ghost use Rattle.plan.specs.Calls.{maxDemand, pairOf, headroomBy, headroomOf};
 
+// the highest demand (the paper: need) of a headroom
 pub const MAX_DEMAND: u32 = 1_000_000_000;
 
+// The lightest edge of the tree path from s to t, with the side that holds s once that edge is cut.
 pub fn pair(p: Plan, s: usize, t: usize) -> PairAnswer
     ensures { λ r. ⌜ r ≡ pairOf p s t ⌝ }
 {
@@ -21,11 +23,12 @@ pub fn pair(p: Plan, s: usize, t: usize) -> PairAnswer
     cut_tree::query(p.tree, p.network.nodes, s, t)
 }
 
+// What a refusal gives: its number beside 0 and spaces.
 fn refused_headroom(number: u32) -> HeadroomReply
     ensures { λ r. ⌜ r ≡ refusedHeadroom number ⌝ }
 {
     HeadroomReply {
-        number: number,
+        number,
         value: 0,
         text: [32; 12],
     }
@@ -39,11 +42,12 @@ fn headroom_by(weight: u32, demand: u32) -> HeadroomReply
     let text = text::tenths(value);
     HeadroomReply {
         number: 0,
-        value: value,
-        text: text,
+        value,
+        text,
     }
 }
 
+// What the pair's weight leaves beside a demand, signed, with its text. The pair's own checks come first.
 pub fn headroom(p: Plan, s: usize, t: usize, demand: u32) -> HeadroomReply
     ensures { λ r. ⌜ r ≡ headroomOf p s t demand ⌝ }
 {

@@ -1,4 +1,4 @@
-// Changes of a capacity, and their undoing.
+// Changes of a capacity, and their undoing (document 01, "The plan and its changes").
 use crate::Changed;
 use crate::Plan;
 use crate::Stack;
@@ -9,11 +9,12 @@ ghost use mathlib.Core.Path.{_≡_};
 ghost use Rattle.cut_tree.specs.RebuildParts.{Changes};
 ghost use Rattle.plan.specs.Calls.{altered, unaltered, changeOf, undoOf};
 
+// What a refusal gives: its number beside the plan as it was.
 fn unaltered(p: Plan, number: u32) -> Changed
     ensures { λ r. ⌜ r ≡ unaltered p number ⌝ }
 {
     Changed {
-        number: number,
+        number,
         count: 0,
         plan: p,
     }
@@ -32,18 +33,19 @@ fn altered(p: Plan, k: usize, c: u32, stack: Stack) -> Changed
     let tree = built.tree;
     let steps = built.steps;
     let plan = Plan {
-        network: network,
-        tree: tree,
-        steps: steps,
-        stack: stack,
+        network,
+        tree,
+        steps,
+        stack,
     };
     Changed {
         number: 0,
         count: built.count,
-        plan: plan,
+        plan,
     }
 }
 
+// Link k gets capacity c; the link and its capacity before go on the stack.
 pub fn change(p: Plan, k: usize, c: u32) -> Changed
     ensures { λ r. ⌜ r ≡ changeOf p k c ⌝ }
 {
@@ -56,7 +58,7 @@ pub fn change(p: Plan, k: usize, c: u32) -> Changed
     altered(p, k, c, stack)
 }
 
-// The same work towards the capacity on top of the stack.
+// The last change that stands is taken back: the same work towards the capacity on top of the stack.
 pub fn undo(p: Plan) -> Changed
     ensures { λ r. ⌜ r ≡ undoOf p ⌝ }
 {

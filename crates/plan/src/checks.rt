@@ -1,4 +1,4 @@
-// Refusals of change and undo, in the order of the table of checks.
+// Refusals of change and undo, in the order of the table of checks; 0 where there is none.
 use crate::MAX_DEPTH;
 use crate::Plan;
 use crate::sound::is_sound;

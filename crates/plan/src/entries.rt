@@ -13,8 +13,8 @@ pub fn empty() -> Stack
     let capacity = [0u32; MAX_DEPTH];
     Stack {
         depth: 0,
-        link: link,
-        capacity: capacity,
+        link,
+        capacity,
     }
 }
 
@@ -30,8 +30,8 @@ pub fn push(stack: Stack, k: usize, c: u32) -> Stack
     capacity[depth] = c;
     Stack {
         depth: depth + 1,
-        link: link,
-        capacity: capacity,
+        link,
+        capacity,
     }
 }
 
@@ -46,7 +46,7 @@ pub fn pop(stack: Stack) -> Stack
     capacity[top] = 0;
     Stack {
         depth: top,
-        link: link,
-        capacity: capacity,
+        link,
+        capacity,
     }
 }

@@ -1,4 +1,4 @@
-// Opening and writing.
+// A plan opened from a network's file, and the file written back.
 use crate::Opening;
 use crate::Plan;
 use crate::Written;
@@ -16,6 +16,7 @@ ghost use Rattle.network.specs.Network.{networkFits};
 ghost use Rattle.plan.specs.Calls.{fresh, openOf, writeOf, writtenTo};
 ghost use Rattle.plan.specs.Plan.{noPlan};
 
+// All zeros: what stands beside a refused file.
 fn no_plan() -> Plan
     ensures { λ r. ⌜ r ≡ noPlan ⌝ }
 {
@@ -51,12 +52,13 @@ fn fresh(net: Network) -> Plan
     let stack = entries::empty();
     Plan {
         network: net,
-        tree: tree,
-        steps: steps,
-        stack: stack,
+        tree,
+        steps,
+        stack,
     }
 }
 
+// Reads a file and builds its plan; or gives the number and the place of its fault.
 pub fn open(file: &[u8]) -> Opening
     ensures { λ r. ⌜ r ≡ openOf (now (file .entry)) ⌝ }
 {
@@ -66,17 +68,18 @@ pub fn open(file: &[u8]) -> Opening
         return Opening {
             number: reading.number,
             place: reading.place,
-            plan: plan,
+            plan,
         };
     }
     let plan = fresh(reading.network);
     Opening {
         number: 0,
         place: 0,
-        plan: plan,
+        plan,
     }
 }
 
+// Writes the plan's file to the front of a buffer and gives its length.
 pub fn write(p: Plan, out: &mut [u8]) -> Written
     ensures { λ r. ⌜ r ≡ writeOf p (length (now (out .entry))) ⌝ }
     ensures { λ _. ⌜ now (out .exit) ≡ writtenTo p (now (out .entry)) ⌝ }

@@ -1,6 +1,5 @@
 // The link plan of document 01: a network with its cut tree and the changes that can be undone. Each call's contract is the definition of
 // its name in specs/Calls.antt, and holds of every input.
-
 mod answers; // pairs and headrooms
 mod changes; // change and undo
 mod checks; // refusals of change and undo

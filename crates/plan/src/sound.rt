@@ -1,4 +1,5 @@
-// Whether a plan, whatever it holds, is sound (document 01, "The plan and its changes"; number 19).
+// Whether a plan, whatever it holds, is sound (document 01, "The plan and its changes"; number 19). Every call on a plan asks it first, so
+// the tests go over the arrays once each.
 use crate::MAX_DEPTH;
 use crate::Plan;
 use crate::Stack;
@@ -184,6 +185,7 @@ fn stack_fits(stack: Stack, m: usize) -> bool
     network::blank_from_u32(&stack.capacity, depth)
 }
 
+// The network first: its limits keep the other tests within the arrays.
 pub fn is_sound(p: Plan) -> bool
     ensures { λ r. ⌜ r ≡ sound p ⌝ }
 {
