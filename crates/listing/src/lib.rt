@@ -1,0 +1,2 @@
+// What the program `pairs` prints for a file.
+mod line; // a word and numbers
