@@ -1,3 +1,5 @@
 pub mod Listing
 pub mod Puts
 pub mod LineLaws
+pub mod LinesLaws
+pub mod LengthLaws

@@ -1,7 +1,10 @@
 -- "Program `pairs`" of document 01: what is printed for a file.
-use Prim.Native.Nat.{ℕ, zero, suc, _+_, _-_}
+use Prim.Native.Nat.{ℕ, zero, suc, _+_, _-_, _^_}
 use mathlib.Core.List.{List, [], _∷_, _++_}
-use Rattle.network.specs.Basics.{at}
+use lib.ListN.{length}
+use lib.Seq.{sets}
+use lib.Dec.{ltb}
+use Rattle.network.specs.Basics.{at, pick}
 use Rattle.network.specs.Checks.{accepted}
 use Rattle.cut_tree.specs.Path.{weightOf, sideIn}
 use Rattle.cut_tree.specs.declared.Tree.{Tree}
@@ -60,3 +63,20 @@ refusedLine number place = lineOf refusedWord (number ∷ place ∷ [])
 
 unfoldable pub listingOf : List ℕ → List ℕ
 listingOf file = let o = openOf file in accepted (o .number) (planLines (o .plan)) (λ e. refusedLine e (o .place))
+
+-- ---- written into a lent buffer
+-- a buffer of this length holds every listing: 2,080 lines of 88 bytes
+abbrev pub maxListing : ℕ
+maxListing = 183040
+
+-- what is answered of a shorter buffer
+abbrev pub notListed : ℕ
+notListed = 2 ^ 64 - 1
+
+-- the answer, by the buffer's length: how many bytes were written
+unfoldable pub listedLength : List ℕ → ℕ → ℕ
+listedLength file size = pick (ltb size maxListing) notListed (length (listingOf file))
+
+-- the buffer behind it: the listing in its first bytes, the rest as it was
+unfoldable pub listedTo : List ℕ → List ℕ → List ℕ
+listedTo file buffer = pick (ltb (length buffer) maxListing) buffer (sets buffer 0 (listingOf file))

@@ -1,6 +1,6 @@
 -- Bytes put into a lent buffer, one piece behind another: what a function that writes at a place promises, and how pieces join.
 use Prim.Native.Nat.{ℕ, suc, _+_}
-use mathlib.Core.Path.{_≡_, refl, sym, ap, ap₂, _∙_}
+use mathlib.Core.Path.{_≡_, refl, sym, ap, ap₂, subst, _∙_}
 use mathlib.Core.List.{List, [], _∷_, _++_}
 use native.Mathlib.Omega.{arith}
 use native.Mathlib.Numerals.{add-one}
@@ -60,3 +60,7 @@ module _ {l : List ℕ} {i : ℕ} {xs : List ℕ} where
 
   pub owing-none : {j : ℕ} {m : List ℕ} → Owing l i xs j [] m → Puts l i xs j m
   owing-none {j} h = record { next-is = omega (arith, h .ends); after-is = h .fills }
+
+-- the same bytes, said otherwise
+pub puts-same : {l m : List ℕ} {i j : ℕ} {xs ys : List ℕ} → xs ≡ ys → Puts l i xs j m → Puts l i ys j m
+puts-same {l} {m} {i} {j} e h = subst (λ (zs : List ℕ). Puts l i zs j m) e h
