@@ -8,11 +8,16 @@ use lib.ListN.{length, length-append}
 use Rattle.network.specs.Basics.{at}
 use Rattle.network.specs.Checks.{accepted}
 use Rattle.network.specs.Limits.{maxNodes}
+use Rattle.network.specs.NetworkLaws.{nodes-le}
+use Rattle.network_file.specs.Reading.{readFile}
+use Rattle.network_file.specs.FileLaws.{accepts}
+use Rattle.network_file.specs.declared.Reading.{Reading}
 use Rattle.text.specs.Text.{decimal}
 use Rattle.text.specs.TextLaws.{decimal-length, decimal-one, decimal-more}
 use Rattle.cut_tree.specs.Path.{weightOf, sideIn}
 use Rattle.cut_tree.specs.declared.Tree.{Tree}
-use Rattle.plan.specs.Calls.{openOf, pairOf}
+use Rattle.plan.specs.Plan.{noPlan}
+use Rattle.plan.specs.Calls.{fresh, opened, openOf, pairOf}
 use Rattle.plan.specs.declared.Plan.{Plan}
 use Rattle.plan.specs.declared.Opening.{Opening}
 use Rattle.listing.specs.Listing.{numbersOf, lineOf, treeWord, pairWord, refusedWord, treeLine, treeLines, pairLine, pairsOf, pairLines, planLines, refusedLine, listingOf, maxListing}
@@ -100,3 +105,25 @@ unfolding planLines
 plan-lines p b =
     let n = p .network .nodes in
     omega (arith, tree-lines (p .tree) (n - 1), pair-lines p n b, count-all n b, length-append (treeLines (p .tree) (n - 1)) (pairLines p n))
+
+-- ---- a listing
+-- an opened plan has at most 64 nodes, and beside a refusal it has none
+opened-nodes : (r : Reading) → (r .number ≡ 0 → r .network .nodes ≤ maxNodes) → opened r .plan .network .nodes ≤ maxNodes
+opened-nodes r h = go (r .number) h
+  where
+    go : (e : ℕ) → (e ≡ 0 → r .network .nodes ≤ maxNodes)
+        → accepted {A = Opening} e (record { number = 0; place = 0; plan = fresh (r .network) }) (λ e. record { number = e; place = r .place; plan = noPlan }) .plan .network .nodes ≤ maxNodes
+    go zero k = k refl
+    go (suc e) k = omega arith
+
+pub open-nodes : (file : List ℕ) → openOf file .plan .network .nodes ≤ maxNodes
+unfolding openOf
+open-nodes file = opened-nodes (readFile file) (λ e. nodes-le (readFile file .network) (accepts file e .fits))
+
+pub listing-length : (file : List ℕ) → length (listingOf file) ≤ maxListing
+unfolding listingOf
+listing-length file = go (openOf file .number)
+  where
+    go : (e : ℕ) → length (accepted e (planLines (openOf file .plan)) (λ e. refusedLine e (openOf file .place))) ≤ maxListing
+    go zero = plan-lines (openOf file .plan) (open-nodes file)
+    go (suc e) = omega (arith, refused-line (suc e) (openOf file .place))

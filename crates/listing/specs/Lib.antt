@@ -3,3 +3,4 @@ pub mod Puts
 pub mod LineLaws
 pub mod LinesLaws
 pub mod LengthLaws
+pub mod ListedLaws
