@@ -4,3 +4,4 @@ pub mod LineLaws
 pub mod LinesLaws
 pub mod LengthLaws
 pub mod ListedLaws
+pub mod FrontLaws

@@ -6,6 +6,7 @@ use lib.Seq.{sets}
 use lib.Dec.{ltb}
 use Rattle.network.specs.Basics.{at, pick}
 use Rattle.network.specs.Checks.{accepted}
+use Rattle.network_file.specs.Writing.{maxFile}
 use Rattle.cut_tree.specs.Path.{weightOf, sideIn}
 use Rattle.cut_tree.specs.declared.Tree.{Tree}
 use Rattle.text.specs.Text.{decimal}
@@ -63,6 +64,10 @@ refusedLine number place = lineOf refusedWord (number ∷ place ∷ [])
 
 unfoldable pub listingOf : List ℕ → List ℕ
 listingOf file = let o = openOf file in accepted (o .number) (planLines (o .plan)) (λ e. refusedLine e (o .place))
+
+-- "At most 1,284 bytes are read": so many are listed as the whole file is
+abbrev pub maxRead : ℕ
+maxRead = maxFile + 1
 
 -- ---- written into a lent buffer
 -- a buffer of this length holds every listing: 2,080 lines of 88 bytes
