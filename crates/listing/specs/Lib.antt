@@ -5,3 +5,4 @@ pub mod LinesLaws
 pub mod LengthLaws
 pub mod ListedLaws
 pub mod FrontLaws
+pub mod Examples

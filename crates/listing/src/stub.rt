@@ -1,10 +1,10 @@
+use cut_tree::PairAnswer;
+use cut_tree::Steps;
+use cut_tree::Tree;
+use network::Network;
 use plan::Opening;
 use plan::Plan;
-use cut_tree::PairAnswer;
-use cut_tree::Tree;
-use cut_tree::Steps;
 use plan::Stack;
-use network::Network;
 ghost use mathlib.Core.Path.{_≡_};
 ghost use Rattle.plan.specs.Calls.{openOf, pairOf};
 

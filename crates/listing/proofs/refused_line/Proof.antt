@@ -1,29 +1,22 @@
+-- `refused_line` meets its contract.
 use Rattle.listing.specs.Listing.{refusedLine}
 use borrow.Author.Needs.{needs}
 use Rattle.listing.proofs.refused_line.Statement.{statement}
 use Rattle.listing.proofs.refused_line.Tie as tie
-use Rattle.listing.proofs.refused_line.Reads as reads
-use Rattle.listing.proofs.refused_line.Lts as lts
-use Rattle.listing.proofs.line.put_line.Reads as put-line-reads
 
--- src/lib.rt:20:38
 slice-aggregate-put-line : tie.Need-slice-aggregate-put-line
 slice-aggregate-put-line c = search needs
 
--- src/lib.rt:20:50
 slice-aggregate-put-line-2 : tie.Need-slice-aggregate-put-line-2
 slice-aggregate-put-line-2 c = search needs
 
--- src/lib.rt:20:5
 put-line-requires : tie.Need-put-line-requires
 unfolding refusedLine
 put-line-requires c κs = search needs
 
--- src/lib.rt:15:1
 same-length : tie.Need-same-length
 same-length c = search needs
 
--- src/lib.rt:15:1
 returns : tie.Need-returns
 unfolding refusedLine
 returns c = search needs

@@ -1,3 +1,4 @@
+-- `put_line` meets its contract: the word, then the numbers.
 use native.Mathlib.Omega.{arith}
 use lib.ListN.{length-append}
 use Rattle.listing.specs.Listing.{numbersOf}
@@ -5,26 +6,21 @@ use Rattle.listing.specs.Puts.{puts-length, puts-then}
 use borrow.Author.Needs.{needs}
 use Rattle.listing.proofs.line.put_line.Statement.{statement}
 use Rattle.listing.proofs.line.put_line.Tie as tie
-use Rattle.listing.proofs.line.put_line.Reads as reads
-use Rattle.listing.proofs.line.put_line.Lts as lts
-use Rattle.listing.proofs.line.put_numbers.Reads as put-numbers-reads
-use Rattle.listing.proofs.line.put_word.Reads as put-word-reads
 
--- src/line.rt:39:9
 put-word-requires : tie.Need-put-word-requires
-put-word-requires c κs = let a = c .before .before .before .before .args in omega (arith, length-append (a .word .now) (numbersOf (a .numbers .now)))
+put-word-requires c κs =
+    let a = c .before .before .before .before .args in
+    omega (arith, length-append (a .word .now) (numbersOf (a .numbers .now)))
 
--- src/line.rt:40:5
 put-numbers-requires : tie.Need-put-numbers-requires
-put-numbers-requires c κs = let a = c .before .before .before .before .before .before .before .before .args in
+put-numbers-requires c κs =
+    let a = c .before .before .before .before .before .before .before .before .args in
     let w = c .before .before .before .put-word .ensures in
     omega (arith, w .next-is, puts-length w, length-append (a .word .now) (numbersOf (a .numbers .now)), c .before .before .before .before .before .before .before .before .pre)
 
--- src/line.rt:35:1
 same-length : tie.Need-same-length
 same-length c = search needs
 
--- src/line.rt:35:1
 returns : tie.Need-returns
 returns c = puts-then (c .before .before .before .before .before .before .put-word .ensures) (c .before .before .put-numbers .ensures)
 

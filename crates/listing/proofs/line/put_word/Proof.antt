@@ -1,3 +1,4 @@
+-- `put_word` meets its contract. What is still to be put is the word from byte k on.
 use Prim.Native.Nat.{_-_, _≤_}
 use mathlib.Core.Path.{_≡_, refl}
 use native.Mathlib.Omega.{arith}
@@ -6,8 +7,6 @@ use Rattle.listing.specs.Puts.{Owing, owing-all, puts-length}
 use Rattle.listing.specs.LineLaws.{word-room, word-more, word-end}
 use Rattle.listing.proofs.line.put_word.Statement.{statement}
 use Rattle.listing.proofs.line.put_word.Tie as tie
-use Rattle.listing.proofs.line.put_word.Reads as reads
-use Rattle.listing.proofs.line.put_word.Lts as lts
 
 abbrev Inv-loop : tie.InvT-loop
 Inv-loop out₀ place word next₀ k₀ k-end out next k = (k ≤ length word) × Owing out₀ place word next (drop k word) out
@@ -15,39 +14,34 @@ Inv-loop out₀ place word next₀ k₀ k-end out next k = (k ≤ length word) �
 abbrev μ-loop : tie.MeasureT-loop
 μ-loop out₀ place word next₀ k₀ k-end out next k = length word - k
 
--- src/line.rt:14:5
 loop-holds : tie.Need-loop-holds Inv-loop μ-loop
 loop-holds c = (omega arith, owing-all _ _ _)
 
--- src/line.rt:15:21
 shared-slice-read-out : tie.Need-shared-slice-read-out Inv-loop μ-loop
 shared-slice-read-out c = omega arith
 
--- src/line.rt:15:9
 slice-write-out : tie.Need-slice-write-out Inv-loop μ-loop
-slice-write-out c = let l = c .before .before .loop in omega (arith, l .inv .1 .size, word-room (l .inv .1) (c .before .loop-test .taken))
+slice-write-out c =
+    let l = c .before .before .loop in
+    omega (arith, l .inv .1 .size, word-room (l .inv .1) (c .before .loop-test .taken))
 
--- src/line.rt:16:9
 add-next : tie.Need-add-next Inv-loop μ-loop
-add-next c = let l = c .before .before .loop in record { fits = omega (arith, word-room (l .inv .1) (c .before .loop-test .taken)) }
+add-next c =
+    let l = c .before .before .loop in
+    record { fits = omega (arith, word-room (l .inv .1) (c .before .loop-test .taken)) }
 
--- src/line.rt:14:9
 add-k : tie.Need-add-k Inv-loop μ-loop
 add-k c = omega arith
 
--- src/line.rt:14:5
 loop-less : tie.Need-loop-less Inv-loop μ-loop
 loop-less c = omega arith
 
--- src/line.rt:14:5
 loop-again : tie.Need-loop-again Inv-loop μ-loop
 loop-again c = (omega arith, word-more (c .before .before .loop .inv .1) (c .before .loop-test .taken))
 
--- src/line.rt:9:1
 same-length : tie.Need-same-length Inv-loop μ-loop
 same-length c = c .before .loop .inv .1 .size
 
--- src/line.rt:9:1
 returns : tie.Need-returns Inv-loop μ-loop
 returns c = word-end (c .before .loop .inv .1) (c .loop-test .left)
 

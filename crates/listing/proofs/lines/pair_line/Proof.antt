@@ -1,3 +1,4 @@
+-- `pair_line` meets its contract.
 use mathlib.Core.Path.{ap}
 use native.Mathlib.Omega.{arith}
 use lib.ListN.{length}
@@ -6,49 +7,36 @@ use Rattle.listing.specs.LinesLaws.{pair-is}
 use borrow.Author.Needs.{needs}
 use Rattle.listing.proofs.lines.pair_line.Statement.{statement}
 use Rattle.listing.proofs.lines.pair_line.Tie as tie
-use Rattle.listing.proofs.lines.pair_line.Reads as reads
-use Rattle.listing.proofs.lines.pair_line.Lts as lts
-use Rattle.listing.proofs.line.put_line.Reads as put-line-reads
-use Rattle.listing.proofs.lines.side_in.Reads as side-in-reads
-use Rattle.listing.proofs.lines.weight_of.Reads as weight-of-reads
-use Rattle.listing.proofs.stub.pair.Reads as pair-reads
 
--- src/lines.rt:72:9
 pair-requires : tie.Need-pair-requires
 pair-requires c κs = search needs
 
--- src/lines.rt:73:9
 weight-of-requires : tie.Need-weight-of-requires
 weight-of-requires c κs = search needs
 
--- src/lines.rt:74:9
 side-in-requires : tie.Need-side-in-requires
 side-in-requires c κs = search needs
 
--- src/lines.rt:75:40
 cast-t13 : tie.Need-cast-t13
 cast-t13 c = search needs
 
--- src/lines.rt:76:32
 slice-aggregate-put-line : tie.Need-slice-aggregate-put-line
 slice-aggregate-put-line c = search needs
 
--- src/lines.rt:76:41
 slice-aggregate-put-line-2 : tie.Need-slice-aggregate-put-line-2
 slice-aggregate-put-line-2 c = search needs
 
--- src/lines.rt:76:5
 put-line-requires : tie.Need-put-line-requires
-put-line-requires c κs = let st = c .before .before .before .before .before .before .before in
+put-line-requires c κs =
+    let st = c .before .before .before .before .before .before .before in
     omega (arith, st .pre, ap length (pair-is (st .args .p) (st .args .s) (st .args .t) (c .before .before .before .before .before .pair .ensures) (c .before .before .before .before .weight-of .ensures) (c .before .before .before .side-in .ensures)))
 
--- src/lines.rt:68:1
 same-length : tie.Need-same-length
 same-length c = search needs
 
--- src/lines.rt:68:1
 returns : tie.Need-returns
-returns c = let a = c .before .before .before .before .before .before .before .before .before .before .args in
+returns c =
+    let a = c .before .before .before .before .before .before .before .before .before .before .args in
     puts-same (pair-is (a .p) (a .s) (a .t) (c .before .before .before .before .before .before .before .before .pair .ensures) (c .before .before .before .before .before .before .before .weight-of .ensures) (c .before .before .before .before .before .before .side-in .ensures)) (c .before .before .put-line .ensures)
 
 pub pair-line-spec : {M : Type 1} → statement M

@@ -1,3 +1,4 @@
+-- `pairs_of` meets its contract. At the head of a turn the lines of s with s + 1 to t - 1 stand.
 use Prim.Native.Nat.{suc, _-_, _<_, _≤_}
 use native.Mathlib.Omega.{arith}
 use Rattle.listing.specs.Listing.{pairsOf}
@@ -5,9 +6,6 @@ use Rattle.listing.specs.Puts.{Puts, puts-length}
 use Rattle.listing.specs.LinesLaws.{pairs-none, pairs-room, pairs-more, pairs-end}
 use Rattle.listing.proofs.lines.pairs_of.Statement.{statement}
 use Rattle.listing.proofs.lines.pairs_of.Tie as tie
-use Rattle.listing.proofs.lines.pairs_of.Reads as reads
-use Rattle.listing.proofs.lines.pairs_of.Lts as lts
-use Rattle.listing.proofs.lines.pair_line.Reads as pair-line-reads
 
 abbrev Inv-loop : tie.InvT-loop
 Inv-loop out₀ place p s nodes next₀ t₀ out next t = (s < t) × (t ≤ nodes) × Puts out₀ place (pairsOf p s (t - suc s)) next out
@@ -15,40 +13,35 @@ Inv-loop out₀ place p s nodes next₀ t₀ out next t = (s < t) × (t ≤ node
 abbrev μ-loop : tie.MeasureT-loop
 μ-loop out₀ place p s nodes next₀ t₀ out next t = nodes - t
 
--- src/lines.rt:87:14
 add-t : tie.Need-add-t Inv-loop μ-loop
 add-t c = omega arith
 
--- src/lines.rt:87:5
 loop-holds : tie.Need-loop-holds Inv-loop μ-loop
 loop-holds c = (omega arith, omega arith, pairs-none _ _ _ _)
 
--- src/lines.rt:88:9
 pair-line-requires : tie.Need-pair-line-requires Inv-loop μ-loop
-pair-line-requires c κs = let st = c .before .before .before .before in
+pair-line-requires c κs =
+    let st = c .before .before .before .before in
     let l = c .before .before .loop in
     pairs-room (st .args .p) (st .args .s) (l .t) (l .inv .0) (l .inv .2) (st .args .p .network .nodes) (c .before .loop-test .taken) (st .pre .1)
 
--- src/lines.rt:87:9
 add-t-2 : tie.Need-add-t-2 Inv-loop μ-loop
 add-t-2 c = omega arith
 
--- src/lines.rt:87:5
 loop-less : tie.Need-loop-less Inv-loop μ-loop
 loop-less c = omega arith
 
--- src/lines.rt:87:5
 loop-again : tie.Need-loop-again Inv-loop μ-loop
-loop-again c = let l = c .before .before .before .before .before .loop in
+loop-again c =
+    let l = c .before .before .before .before .before .loop in
     (omega arith, omega arith, pairs-more (c .before .before .before .before .before .before .before .args .p) (c .before .before .before .before .before .before .before .args .s) (l .t) (l .inv .0) (l .inv .2) (c .before .before .pair-line .ensures))
 
--- src/lines.rt:80:1
 same-length : tie.Need-same-length Inv-loop μ-loop
 same-length c = puts-length (c .before .loop .inv .2)
 
--- src/lines.rt:80:1
 returns : tie.Need-returns Inv-loop μ-loop
-returns c = let l = c .before .loop in
+returns c =
+    let l = c .before .loop in
     let a = c .before .before .before .args in
     pairs-end (a .p) (a .s) (l .t) (l .inv .0) (l .inv .2) (a .p .network .nodes) (l .inv .1) (c .loop-test .left)
 

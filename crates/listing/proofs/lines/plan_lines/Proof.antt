@@ -1,29 +1,25 @@
+-- `plan_lines` meets its contract: the tree, then the pairs.
 use native.Mathlib.Omega.{arith}
 use Rattle.listing.specs.Puts.{puts-length}
 use Rattle.listing.specs.LinesLaws.{plan-length, plan-puts}
 use borrow.Author.Needs.{needs}
 use Rattle.listing.proofs.lines.plan_lines.Statement.{statement}
 use Rattle.listing.proofs.lines.plan_lines.Tie as tie
-use Rattle.listing.proofs.lines.plan_lines.Reads as reads
-use Rattle.listing.proofs.lines.plan_lines.Lts as lts
-use Rattle.listing.proofs.lines.pair_lines.Reads as pair-lines-reads
-use Rattle.listing.proofs.lines.tree_lines.Reads as tree-lines-reads
 
--- src/lines.rt:110:9
 tree-lines-requires : tie.Need-tree-lines-requires
-tree-lines-requires c κs = let st = c .before .before in (st .pre .0, omega (arith, st .pre .1, plan-length (st .args .p)))
+tree-lines-requires c κs =
+    let st = c .before .before in
+    (st .pre .0, omega (arith, st .pre .1, plan-length (st .args .p)))
 
--- src/lines.rt:111:5
 pair-lines-requires : tie.Need-pair-lines-requires
-pair-lines-requires c κs = let st = c .before .before .before .before .before .before in
+pair-lines-requires c κs =
+    let st = c .before .before .before .before .before .before in
     let t = c .before .before .before .tree-lines .ensures in
     omega (arith, st .pre .1, plan-length (st .args .p), t .next-is, puts-length t)
 
--- src/lines.rt:105:1
 same-length : tie.Need-same-length
 same-length c = search needs
 
--- src/lines.rt:105:1
 returns : tie.Need-returns
 returns c = plan-puts (c .before .before .before .before .before .before .before .before .before .args .p) (c .before .before .before .before .before .before .tree-lines .ensures) (c .before .before .pair-lines .ensures)
 

@@ -1,49 +1,37 @@
+-- `tree_line` meets its contract.
 use Rattle.listing.specs.Listing.{treeLine}
 use borrow.Author.Needs.{needs}
 use Rattle.listing.proofs.lines.tree_line.Statement.{statement}
 use Rattle.listing.proofs.lines.tree_line.Tie as tie
-use Rattle.listing.proofs.lines.tree_line.Reads as reads
-use Rattle.listing.proofs.lines.tree_line.Lts as lts
-use Rattle.listing.proofs.line.put_line.Reads as put-line-reads
 
--- src/lib.rt:28:33
 element-copy-out-t11 : tie.Need-element-copy-out-t11
 element-copy-out-t11 c = search needs
 
--- src/lib.rt:28:33
 cast-t12 : tie.Need-cast-t12
 cast-t12 c = search needs
 
--- src/lib.rt:28:59
 mul-t13 : tie.Need-mul-t13
 mul-t13 c = search needs
 
--- src/lib.rt:28:59
 element-copy-out-t16 : tie.Need-element-copy-out-t16
 element-copy-out-t16 c = search needs
 
--- src/lib.rt:28:59
 cast-t17 : tie.Need-cast-t17
 cast-t17 c = search needs
 
--- src/lib.rt:29:38
 slice-aggregate-put-line : tie.Need-slice-aggregate-put-line
 slice-aggregate-put-line c = search needs
 
--- src/lib.rt:29:47
 slice-aggregate-put-line-2 : tie.Need-slice-aggregate-put-line-2
 slice-aggregate-put-line-2 c = search needs
 
--- src/lib.rt:29:5
 put-line-requires : tie.Need-put-line-requires
 unfolding treeLine
 put-line-requires c κs = search needs
 
--- src/lib.rt:23:1
 same-length : tie.Need-same-length
 same-length c = search needs
 
--- src/lib.rt:23:1
 returns : tie.Need-returns
 unfolding treeLine
 returns c = search needs
