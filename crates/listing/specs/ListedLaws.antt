@@ -58,3 +58,8 @@ module _ (file l : List ℕ) where
 
       pub refused-listed : o .number ≢ 0 → {r : ℕ} {m : List ℕ} → Puts l 0 (refusedLine (o .number) (o .place)) r m → Listed file l r m
       refused-listed z p = listed (puts-same (refused-is z) p)
+
+-- a buffer that is long enough holds what was written
+pub listed-within : (file : List ℕ) (size : ℕ) → maxListing ≤ size → listedLength file size ≤ size
+unfolding listedLength
+listed-within file size b = rw (le-ltb size maxListing b) (omega (arith, listing-length file))
