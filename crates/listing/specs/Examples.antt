@@ -1,6 +1,6 @@
 -- Worked examples: resort A's listing as document 01 prints it, one node, a refused file, and what a buffer is left with.
 use mathlib.Core.Path.{_≡_, refl}
-use mathlib.Core.List.{List, [], _∷_, _++_}
+use mathlib.Core.List.{List, [], _∷_}
 use Prim.Native.Nat.{ℕ, _-_, _^_}
 use lib.ListN.{replicate}
 use lib.Count.{ones, onesIn}

@@ -1,19 +1,17 @@
 -- "At most 1,284 bytes are read": the first 1,284 bytes of a file are read as the whole file is, so the program need not see more. No number
 -- is due behind byte 1,283, and a file that is accepted is no longer.
 use Prim.Native.Nat.{ℕ, zero, suc, _+_, _-_, _*_, _≤_, _<_}
-use mathlib.Core.Path.{_≡_, refl, sym, ap, subst, _∙_}
-use mathlib.Core.Logic.{_≢_}
+use mathlib.Core.Path.{_≡_, sym, ap, _∙_}
 use mathlib.Core.List.{List, [], _∷_}
 use native.Mathlib.Omega.{arith}
-use native.Mathlib.Decide.{ℕ-discrete, decLt}
+use native.Mathlib.Decide.{ℕ-discrete}
 use lib.ListN.{length, take, drop, length-take, length-drop}
 use lib.Seq.{take-all, take-nil, getD-take}
-use Rattle.network.specs.Basics.{at}
 use Rattle.network.specs.Limits.{maxNodes, maxGroups}
 use Rattle.network.specs.declared.Network.{Network}
 use Rattle.network_file.specs.Reading.{readFile}
 use Rattle.network_file.specs.Writing.{maxFile}
-use Rattle.network_file.specs.Faults.{Groups, last, more, Topped, EndsEarly, ZeroLast, Stands, Field, nodes, links, end, otherEnd, capacity, Next, number, over, linksLeft, following, Wrong, Due, first, then, Bad, one, two, three, by-row, nine, Fault}
+use Rattle.network_file.specs.Faults.{Groups, last, more, Topped, Stands, Field, nodes, links, end, otherEnd, capacity, Next, number, over, linksLeft, following, Wrong, Due, first, then, Bad, one, two, three, by-row, nine, Fault}
 use Rattle.network_file.specs.Taking.{nodes-passed, links-passed, end-passed, other-end-passed}
 use Rattle.network_file.specs.Told.{Told, is-refused, is-accepted, told}
 use Rattle.network_file.specs.FileLaws.{refused-network}

@@ -1,7 +1,7 @@
 -- How long a listing is: 183,040 bytes hold every one. A decimal has at most 20 digits, a node's number at most two.
-use Prim.Native.Nat.{ℕ, zero, suc, _+_, _-_, _*_, _/_, _%_, _^_, _≤_, _<_}
-use mathlib.Core.Path.{_≡_, refl, sym, ap, ap₂, subst, _∙_}
-use mathlib.Core.List.{List, [], _∷_, _++_}
+use Prim.Native.Nat.{ℕ, zero, suc, _+_, _-_, _*_, _/_, _%_, _≤_, _<_}
+use mathlib.Core.Path.{_≡_, refl, ap, subst}
+use mathlib.Core.List.{List, [], _∷_}
 use native.Mathlib.Omega.{arith}
 use native.Mathlib.Decide.{decLt}
 use lib.ListN.{length, length-append}
@@ -20,7 +20,7 @@ use Rattle.plan.specs.Plan.{noPlan}
 use Rattle.plan.specs.Calls.{fresh, opened, openOf, pairOf}
 use Rattle.plan.specs.declared.Plan.{Plan}
 use Rattle.plan.specs.declared.Opening.{Opening}
-use Rattle.listing.specs.Listing.{numbersOf, lineOf, treeWord, pairWord, refusedWord, treeLine, treeLines, pairLine, pairsOf, pairLines, planLines, refusedLine, listingOf, maxListing}
+use Rattle.listing.specs.Listing.{numbersOf, treeLine, treeLines, pairLine, pairsOf, pairLines, planLines, refusedLine, listingOf, maxListing}
 
 abbrev maxLine : ℕ
 maxLine = 88

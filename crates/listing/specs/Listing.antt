@@ -12,7 +12,6 @@ use Rattle.cut_tree.specs.declared.Tree.{Tree}
 use Rattle.text.specs.Text.{decimal}
 use Rattle.plan.specs.Calls.{openOf, pairOf}
 use Rattle.plan.specs.declared.Plan.{Plan}
-use Rattle.plan.specs.declared.Opening.{Opening}
 
 -- "tree", "pair", "refused"
 abbrev pub treeWord : List ℕ

@@ -1,10 +1,9 @@
 -- `put_numbers` meets its contract. What is still to be put is the numbers from number k on, and the line feed.
 use Prim.Native.Nat.{_-_, _≤_}
-use mathlib.Core.Path.{_≡_, refl}
 use native.Mathlib.Omega.{arith}
 use lib.ListN.{length, drop, length-set}
 use Rattle.listing.specs.Listing.{numbersOf}
-use Rattle.listing.specs.Puts.{Owing, owing-all, puts-length}
+use Rattle.listing.specs.Puts.{Owing, owing-all}
 use Rattle.listing.specs.LineLaws.{number-room, number-more, feed-room, numbers-end}
 use Rattle.listing.proofs.line.put_numbers.Statement.{statement}
 use Rattle.listing.proofs.line.put_numbers.Tie as tie

@@ -1,9 +1,8 @@
 -- `put_word` meets its contract. What is still to be put is the word from byte k on.
 use Prim.Native.Nat.{_-_, _≤_}
-use mathlib.Core.Path.{_≡_, refl}
 use native.Mathlib.Omega.{arith}
 use lib.ListN.{length, drop}
-use Rattle.listing.specs.Puts.{Owing, owing-all, puts-length}
+use Rattle.listing.specs.Puts.{Owing, owing-all}
 use Rattle.listing.specs.LineLaws.{word-room, word-more, word-end}
 use Rattle.listing.proofs.line.put_word.Statement.{statement}
 use Rattle.listing.proofs.line.put_word.Tie as tie
