@@ -1,6 +1,14 @@
 pub mod Rule
 pub mod Rebuild
 pub mod Path
+pub mod QueryParts
+pub mod ClimbLaws
+pub mod QueryLaws
+pub mod SideLaws
+pub mod StepLaws
+pub mod RebuildParts
+pub mod TakingLaws
+pub mod LoopLaws
 pub mod RuleLaws
 pub mod KeepLaws
 pub mod RebuildLaws

@@ -1,8 +1,8 @@
 -- Laws of the incidence lists: how they grow link by link, and what a walk along a chain meets.
 use mathlib.Core.Path.{_≡_, refl, sym, ap, _∙_}
 use mathlib.Core.Logic.{_≢_}
-use mathlib.Core.List.{List, [], _∷_}
-use mathlib.Core.Bool.{Bool, true, false}
+use mathlib.Core.List.{List, _∷_}
+use mathlib.Core.Bool.{true}
 use Prim.Native.Nat.{ℕ, zero, suc, _+_, _-_, _*_, _<_, _≤_}
 use native.Mathlib.Omega.{arith}
 use native.Mathlib.Decide.{ℕ-discrete}
@@ -13,7 +13,7 @@ use Rattle.min_cut.specs.Cut.{Net}
 use Rattle.min_cut.specs.Arcs.{tail, tip, tail0, tail1, tip0, tip1}
 use Rattle.network.specs.Basics.{at}
 use Rattle.network.specs.BasicsLaws.{zeros-at}
-use Rattle.network.specs.Limits.{maxNodes, maxLinks, maxArcs}
+use Rattle.network.specs.Limits.{maxNodes, maxArcs}
 use Rattle.network.specs.Network.{networkFits, graph}
 use Rattle.network.specs.NetworkLaws.{nodes-le, links-le, ends-within}
 use Rattle.network.specs.Incidence.{Leaves, Chains, arcsFrom, walk}

@@ -6,3 +6,4 @@ pub mod Network
 pub mod NetworkLaws
 pub mod Incidence
 pub mod IncidenceLaws
+pub mod Examples

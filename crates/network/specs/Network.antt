@@ -1,5 +1,5 @@
 -- "The network" of document 01: its limits, its cuts and its flows. The paper's house is a node here.
-use Prim.Native.Nat.{ℕ, _<_}
+use Prim.Native.Nat.{ℕ}
 use mathlib.Core.Path.{_≡_}
 use mathlib.Core.Bool.{Bool, true, not}
 use mathlib.Core.List.{List, [], _∷_}

@@ -1,11 +1,13 @@
-// Networks within the limits of document 01.
+// "The network" of document 01: the record, the test of its limits, and what searches and trials need of it.
 mod blank; // unused places
+mod cut; // the value of a cut
 mod incidence; // each node's own arcs, for a search to walk
 
 pub use blank::blank_from_u8;
 pub use blank::blank_from_u16;
 pub use blank::blank_from_u32;
 pub use blank::blank_from_u64;
+pub use cut::cut_value;
 pub use incidence::Incidence;
 pub use incidence::incidence_of;
 ghost use mathlib.Core.Path.{_≡_};
@@ -14,17 +16,17 @@ ghost use Rattle.network.specs.Basics.{all};
 ghost use Rattle.network.specs.Limits.{maxLinks};
 ghost use Rattle.network.specs.Network.{linkWithin, linkFits, networkFits};
 
-// The limits of document 01. Its house is a node here.
+// The limits of document 01, as in specs/Limits.antt. Nodes (its houses) of a network.
 pub const MAX_NODES: usize = 64;
-
+// links of a network
 pub const MAX_LINKS: usize = 256;
-// an arc is a link one way
+// arcs: each link there and back
 pub const MAX_ARCS: usize = 2 * MAX_LINKS;
-// in tenths of a megabit per second
+// a capacity, in tenths of a megabit per second
 pub const MAX_CAPACITY: u32 = 1_000_000;
-// every link at its highest capacity
+// a cut value: every link at its highest capacity
 pub const MAX_VALUE: u32 = 256_000_000;
-// groups of seven bits in a number of a network's file
+// groups of seven bits in a number of the file
 pub const MAX_GROUPS: usize = 3;
 
 // A network: nodes 0 to nodes - 1, and links of which link k joins a[k] and b[k] and has capacity[k]. Unused places are 0.

@@ -4,10 +4,9 @@ use mathlib.Core.List.{List, _∷_}
 use borrow.Author.Needs.{needs}
 use borrow.Author.Tests.{le-leb, lt-leb}
 use lib.Dec.{leb}
-use Rattle.network.specs.Basics.{all, blankFrom}
 use Rattle.network.specs.BasicsLaws.{Settled, fail, pass, last, settled, answered-no, answered-yes}
 use Rattle.network.specs.Limits.{maxNodes, maxLinks}
-use Rattle.network.specs.Network.{networkFits, linkFits}
+use Rattle.network.specs.Network.{networkFits}
 use Rattle.network.proofs.fits.Statement.{statement}
 use Rattle.network.proofs.fits.Tie as tie
 

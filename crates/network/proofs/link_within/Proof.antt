@@ -2,7 +2,7 @@
 use mathlib.Core.Path.{refl, ap}
 use mathlib.Core.Bool.{not}
 use borrow.Author.Tests.{lt-ltb, le-ltb, eq-eqb, ne-eqb}
-use Rattle.network.specs.BasicsLaws.{Settled, fail, pass, last, settled}
+use Rattle.network.specs.BasicsLaws.{fail, pass, last, settled}
 use Rattle.network.proofs.link_within.Statement.{statement}
 use Rattle.network.proofs.link_within.Tie as tie
 

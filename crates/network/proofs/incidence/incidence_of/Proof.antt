@@ -4,7 +4,7 @@ use Prim.Native.Nat.{_≤_, _<_, _-_, _*_}
 use native.Mathlib.Omega.{arith}
 use Rattle.network.specs.Basics.{at}
 use Rattle.network.specs.Limits.{maxNodes, maxLinks}
-use Rattle.network.specs.NetworkLaws.{nodes-le, links-le, ends-within}
+use Rattle.network.specs.NetworkLaws.{link-places}
 use Rattle.network.specs.IncidenceLaws.{Built, built-none, built-link}
 use Rattle.network.proofs.incidence.incidence_of.Statement.{statement}
 use Rattle.network.proofs.incidence.incidence_of.Tie as tie
@@ -18,11 +18,7 @@ abbrev μ-loop : tie.MeasureT-loop
 -- the link's number, and its ends
 within : (c : tie.In-loop Inv-loop μ-loop) →
     (c .before .loop .k < maxLinks) × (at (c .before .before .args .t1 .a) (c .before .loop .k) < maxNodes) × (at (c .before .before .args .t1 .b) (c .before .loop .k) < maxNodes)
-within c =
-    let net = c .before .before .args .t1 in
-    let h = c .before .before .pre in
-    let ends = ends-within net h (c .before .loop .k) (c .loop-test .taken) in
-    omega (arith, nodes-le net h, links-le net h, ends .0, ends .1)
+within c = link-places (c .before .before .args .t1) (c .before .before .pre) _ (c .loop-test .taken)
 
 loop-holds : tie.Need-loop-holds Inv-loop μ-loop
 loop-holds c = (omega arith, built-none (c .args .t1))

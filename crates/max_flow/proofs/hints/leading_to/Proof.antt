@@ -1,0 +1,59 @@
+-- `leading_to` ends: the lowest node of what is left is taken away.
+use Prim.Native.Nat.{ℕ, _+_, _-_, _*_, _/_, _%_, _^_, _<_, _≤_}
+use native.Mathlib.Omega.{arith}
+use borrow.Author.Needs.{needs}
+use mathlib.Core.Path.{_≡_}
+use Rattle.node_set.specs.SizeLaws.{lowest-less}
+use Rattle.max_flow.proofs.hints.leading_to.Statement.{statement}
+use Rattle.max_flow.proofs.hints.leading_to.Tie as tie
+
+abbrev Inv-loop : tie.InvT-loop
+Inv-loop into ring all₀ rest₀ all rest = 0 ≤ rest
+
+abbrev μ-loop : tie.MeasureT-loop
+μ-loop into ring all₀ rest₀ all rest = rest
+
+loop-holds : tie.Need-loop-holds Inv-loop μ-loop
+loop-holds c = omega arith
+
+lowest-requires : tie.Need-lowest-requires Inv-loop μ-loop
+lowest-requires c κs = omega arith
+
+remove-requires : tie.Need-remove-requires Inv-loop μ-loop
+remove-requires c κs = search needs
+
+mul-union : tie.Need-mul-union Inv-loop μ-loop
+mul-union c = search needs
+
+element-copy-out-union : tie.Need-element-copy-out-union Inv-loop μ-loop
+element-copy-out-union c = search needs
+
+union-requires : tie.Need-union-requires Inv-loop μ-loop
+union-requires c κs = search needs
+
+loop-less : tie.Need-loop-less Inv-loop μ-loop
+loop-less c =
+    let l = c .before .before .before .before .before .loop in
+    rw (c .before .before .remove .ensures) (lowest-less (l .rest) (c .before .before .before .lowest .result) (c .before .before .before .lowest .ensures))
+
+loop-again : tie.Need-loop-again Inv-loop μ-loop
+loop-again c = omega arith
+
+returns : tie.Need-returns Inv-loop μ-loop
+returns c = search needs
+
+pub leading-to-spec : {M : Type 1} → statement M
+leading-to-spec =
+    tie.close
+    (tie.spec
+    Inv-loop
+    μ-loop
+    loop-holds
+    lowest-requires
+    remove-requires
+    mul-union
+    element-copy-out-union
+    union-requires
+    loop-less
+    loop-again
+    returns)
