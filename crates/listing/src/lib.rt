@@ -1,7 +1,6 @@
 // What the program `pairs` prints for a file.
 mod line; // a word and numbers
 mod lines; // the lines of a plan
-mod stub;
 
 ghost use mathlib.Core.Path.{_≡_};
 ghost use lib.ListN.{length};
@@ -33,7 +32,7 @@ pub fn listing(file: &[u8], out: &mut [u8]) -> usize
     if out.len() < MAX_LISTING {
         return NOT_LISTED;
     }
-    let opening = stub::open(file);
+    let opening = plan::open(file);
     if opening.number == 0 {
         lines::plan_lines(&mut *out, opening.plan)
     } else {

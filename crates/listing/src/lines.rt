@@ -69,7 +69,7 @@ fn pair_line(out: &mut [u8], place: usize, p: Plan, s: usize, t: usize) -> usize
     requires { ⌜ place + length (pairLine p s t) ≤ length (now out) ⌝ }
     ensures { λ r. ⌜ Puts (now (out .entry)) place (pairLine p s t) r (now (out .exit)) ⌝ }
 {
-    let answer = crate::stub::pair(p, s, t);
+    let answer = plan::pair(p, s, t);
     let weight = weight_of(answer);
     let side = side_in(answer);
     let numbers = [s as u64, t as u64, weight as u64, side];
