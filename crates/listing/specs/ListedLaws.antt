@@ -2,10 +2,14 @@
 use Prim.Native.Nat.{ℕ, zero, suc, _≤_, _<_}
 use mathlib.Core.Path.{_≡_, refl, sym, ap, subst, _∙_}
 use mathlib.Core.Logic.{_≢_}
+use mathlib.Core.Bool.{Bool, true, false}
 use mathlib.Core.List.{List}
 use native.Mathlib.Omega.{arith}
-use lib.ListN.{length}
+use lib.ListN.{length, take}
+use lib.Seq.{sets, length-sets, length-take-le}
+use lib.Dec.{ltb}
 use borrow.Author.Tests.{lt-ltb, le-ltb}
+use Rattle.network.specs.Basics.{pick}
 use Rattle.network.specs.Checks.{accepted}
 use Rattle.network.specs.Limits.{maxNodes}
 use Rattle.plan.specs.Calls.{openOf}
@@ -19,6 +23,18 @@ abbrev Listed : List ℕ → List ℕ → ℕ → List ℕ → Type 0
 Listed file l r m = (r ≡ listedLength file (length l)) × (m ≡ listedTo file l)
 
 module _ (file l : List ℕ) where
+  listed-is : maxListing ≤ length l → listedLength file (length l) ≡ length (listingOf file)
+  unfolding listedLength
+  listed-is b = rw (le-ltb (length l) maxListing b)
+
+  listed-kept : length (listedTo file l) ≡ length l
+  unfolding listedTo
+  listed-kept = go (ltb (length l) maxListing)
+    where
+      go : (b : Bool) → length (pick b l (sets l 0 (listingOf file))) ≡ length l
+      go true = refl
+      go false = length-sets l 0 (listingOf file)
+
   pub too-short : length l < maxListing → Listed file l notListed l
   unfolding listedLength listedTo
   too-short b = rw (lt-ltb (length l) maxListing b) (refl, refl)
@@ -58,7 +74,9 @@ module _ (file l : List ℕ) where
       pub refused-listed : o .number ≢ 0 → {r : ℕ} {m : List ℕ} → Puts l 0 (refusedLine (o .number) (o .place)) r m → Listed file l r m
       refused-listed z p = listed (puts-same (refused-is z) p)
 
--- a buffer that is long enough holds what was written
-pub listed-within : (file : List ℕ) (size : ℕ) → maxListing ≤ size → listedLength file size ≤ size
-unfolding listedLength
-listed-within file size b = rw (le-ltb size maxListing b) (omega (arith, listing-length file))
+-- in a buffer that is long enough: how many of its bytes were written
+pub listed-counts : (file l : List ℕ) {r : ℕ} {m : List ℕ} → maxListing ≤ length l → r ≡ listedLength file (length l) → m ≡ listedTo file l
+    → (r ≤ length m) × (r ≡ length (take r m))
+listed-counts file l {r} {m} b e f =
+    let within : r ≤ length m = omega (arith, listing-length file, listed-is file l b, ap length f, listed-kept file l) in
+    (within, sym (length-take-le r m within))
