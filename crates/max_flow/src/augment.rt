@@ -56,17 +56,14 @@ fn push(tree: SearchTree, into: &mut [u64; MAX_NODES], residual: &mut [[u32; 2];
     while i > 0 {
         let e = tree.arc[i] as usize;
         let f = tree.from[i] as usize;
+        let u = tree.node[f] as usize;
+        let v = tree.node[i] as usize;
         let k = e / 2;
         let x = residual[k][0];
         let y = residual[k][1];
         let row = row_after(x, y, e, d);
         residual[k] = row;
-        note_sent(
-            into,
-            tree.node[f] as usize,
-            tree.node[i] as usize,
-            row[e % 2],
-        );
+        note_sent(into, u, v, row[e % 2]);
         i = f;
     }
     d

@@ -37,7 +37,7 @@ fn leading_to(into: &[u64; MAX_NODES], ring: u64) -> u64 {
     let mut rest = ring;
     while rest > 0 {
         let v = lowest(rest);
-        rest = remove(rest, v);
+        rest = rest & (rest - 1);
         all = union(all, into[v]);
     }
     all

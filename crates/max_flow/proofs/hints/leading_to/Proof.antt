@@ -1,9 +1,8 @@
--- `leading_to` ends: the lowest node of what is left is taken away.
+-- `leading_to` ends: what is left loses a node in each turn.
 use Prim.Native.Nat.{ℕ, _+_, _-_, _*_, _/_, _%_, _^_, _<_, _≤_}
 use native.Mathlib.Omega.{arith}
 use borrow.Author.Needs.{needs}
-use mathlib.Core.Path.{_≡_}
-use Rattle.node_set.specs.SizeLaws.{lowest-less}
+use lib.Bits.{and-le-r}
 use Rattle.max_flow.proofs.hints.leading_to.Statement.{statement}
 use Rattle.max_flow.proofs.hints.leading_to.Tie as tie
 
@@ -19,8 +18,8 @@ loop-holds c = omega arith
 lowest-requires : tie.Need-lowest-requires Inv-loop μ-loop
 lowest-requires c κs = omega arith
 
-remove-requires : tie.Need-remove-requires Inv-loop μ-loop
-remove-requires c κs = search needs
+sub-rest : tie.Need-sub-rest Inv-loop μ-loop
+sub-rest c = omega arith
 
 mul-union : tie.Need-mul-union Inv-loop μ-loop
 mul-union c = search needs
@@ -33,8 +32,8 @@ union-requires c κs = search needs
 
 loop-less : tie.Need-loop-less Inv-loop μ-loop
 loop-less c =
-    let l = c .before .before .before .before .before .loop in
-    rw (c .before .before .remove .ensures) (lowest-less (l .rest) (c .before .before .before .lowest .result) (c .before .before .before .lowest .ensures))
+    let l = c .before .before .before .before .loop in
+    omega (arith, and-le-r (l .rest) (l .rest - 1))
 
 loop-again : tie.Need-loop-again Inv-loop μ-loop
 loop-again c = omega arith
@@ -50,7 +49,7 @@ leading-to-spec =
     μ-loop
     loop-holds
     lowest-requires
-    remove-requires
+    sub-rest
     mul-union
     element-copy-out-union
     union-requires
