@@ -9,7 +9,7 @@ ghost use Rattle.listing.specs.Listing.{refusedLine, listedLength, liste
 ghost use Rattle.listing.specs.Puts.{Puts};
 
 // So many bytes of a file are listed as the whole file is.
-pub const MAX_READ: usize = 1284;
+pub const MAX_READ: usize = network_file::MAX_FILE + 1;
 // A buffer of this length holds every listing.
 pub const MAX_LISTING: usize = 183_040;
 // What is answered of a shorter buffer.
