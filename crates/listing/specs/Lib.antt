@@ -6,6 +6,7 @@ pub mod Shown
 pub mod FrontLaws
 pub mod Examples
 -- laws for the proofs of the code
+pub mod PutsLaws
 pub mod LineLaws
 pub mod LinesLaws
 pub mod LengthLaws

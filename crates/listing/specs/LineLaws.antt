@@ -9,7 +9,8 @@ use lib.Seq.{drop-cons}
 use Rattle.network.specs.Basics.{at}
 use Rattle.text.specs.Text.{decimal}
 use Rattle.listing.specs.Listing.{numbersOf}
-use Rattle.listing.specs.Puts.{Puts, Owing, owing-same, owing-byte, owing-puts, owing-none}
+use Rattle.listing.specs.Puts.{Puts}
+use Rattle.listing.specs.PutsLaws.{Owing, owing-same, owing-byte, owing-puts, owing-none}
 
 -- ---- a word
 module _ {l : List ℕ} {i : ℕ} {word : List ℕ} {j k : ℕ} {m : List ℕ} (h : Owing l i word j (drop k word) m) where

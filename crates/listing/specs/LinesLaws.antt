@@ -12,7 +12,8 @@ use Rattle.cut_tree.specs.declared.PairAnswer.{PairAnswer}
 use Rattle.plan.specs.Calls.{pairOf}
 use Rattle.plan.specs.declared.Plan.{Plan}
 use Rattle.listing.specs.Listing.{lineOf, pairWord, treeLine, treeLines, pairLine, pairsOf, pairLines, planLines}
-use Rattle.listing.specs.Puts.{Puts, puts-length, puts-none, puts-then}
+use Rattle.listing.specs.Puts.{Puts}
+use Rattle.listing.specs.PutsLaws.{puts-length, puts-none, puts-then}
 
 -- ---- lines that grow at their end
 module _ (f step : ℕ → List ℕ) (grows : (k : ℕ) → f (suc k) ≡ f k ++ step k) where

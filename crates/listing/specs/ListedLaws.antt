@@ -15,7 +15,8 @@ use Rattle.network.specs.Limits.{maxNodes}
 use Rattle.plan.specs.Calls.{openOf}
 use Rattle.plan.specs.declared.Opening.{Opening}
 use Rattle.listing.specs.Listing.{planLines, refusedLine, listingOf, maxListing, notListed, listedLength, listedTo}
-use Rattle.listing.specs.Puts.{Puts, puts-same}
+use Rattle.listing.specs.Puts.{Puts}
+use Rattle.listing.specs.PutsLaws.{puts-same}
 use Rattle.listing.specs.LengthLaws.{open-nodes, listing-length}
 
 -- the answer r, and the buffer m behind it

@@ -2,7 +2,7 @@
 use native.Mathlib.Omega.{arith}
 use lib.ListN.{length-append}
 use Rattle.listing.specs.Listing.{numbersOf}
-use Rattle.listing.specs.Puts.{puts-length, puts-then}
+use Rattle.listing.specs.PutsLaws.{puts-length, puts-then}
 use borrow.Author.Needs.{needs}
 use Rattle.listing.proofs.line.put_line.Statement.{statement}
 use Rattle.listing.proofs.line.put_line.Tie as tie

@@ -6,7 +6,7 @@ use lib.ListN.{length, drop, length-set}
 use Rattle.network.specs.Basics.{at}
 use Rattle.text.specs.Text.{decimal}
 use Rattle.listing.specs.Listing.{numbersOf}
-use Rattle.listing.specs.Puts.{Owing, owing-all}
+use Rattle.listing.specs.PutsLaws.{Owing, owing-all}
 use Rattle.listing.specs.LineLaws.{number-room, number-more, feed-room, numbers-end}
 use Rattle.listing.proofs.line.put_numbers.Statement.{statement}
 use Rattle.listing.proofs.line.put_numbers.Tie as tie

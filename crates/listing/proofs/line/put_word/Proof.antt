@@ -2,7 +2,7 @@
 use Prim.Native.Nat.{_-_, _≤_}
 use native.Mathlib.Omega.{arith}
 use lib.ListN.{length, drop}
-use Rattle.listing.specs.Puts.{Owing, owing-all}
+use Rattle.listing.specs.PutsLaws.{Owing, owing-all}
 use Rattle.listing.specs.LineLaws.{word-room, word-more, word-end}
 use Rattle.listing.proofs.line.put_word.Statement.{statement}
 use Rattle.listing.proofs.line.put_word.Tie as tie

@@ -2,7 +2,8 @@
 use Prim.Native.Nat.{suc, _-_, _<_, _≤_}
 use native.Mathlib.Omega.{arith}
 use Rattle.listing.specs.Listing.{pairsOf}
-use Rattle.listing.specs.Puts.{Puts, puts-length}
+use Rattle.listing.specs.Puts.{Puts}
+use Rattle.listing.specs.PutsLaws.{puts-length}
 use Rattle.listing.specs.LinesLaws.{pairs-none, pairs-room, pairs-more, pairs-end}
 use Rattle.listing.proofs.lines.pairs_of.Statement.{statement}
 use Rattle.listing.proofs.lines.pairs_of.Tie as tie

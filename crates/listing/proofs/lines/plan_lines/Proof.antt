@@ -1,6 +1,6 @@
 -- `plan_lines` meets its contract: the tree, then the pairs.
 use native.Mathlib.Omega.{arith}
-use Rattle.listing.specs.Puts.{puts-length}
+use Rattle.listing.specs.PutsLaws.{puts-length}
 use Rattle.listing.specs.LinesLaws.{plan-length, plan-puts}
 use borrow.Author.Needs.{needs}
 use Rattle.listing.proofs.lines.plan_lines.Statement.{statement}

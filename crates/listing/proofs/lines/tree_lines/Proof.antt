@@ -2,7 +2,8 @@
 use Prim.Native.Nat.{_-_, _≤_}
 use native.Mathlib.Omega.{arith}
 use Rattle.listing.specs.Listing.{treeLines}
-use Rattle.listing.specs.Puts.{Puts, puts-length}
+use Rattle.listing.specs.Puts.{Puts}
+use Rattle.listing.specs.PutsLaws.{puts-length}
 use Rattle.listing.specs.LinesLaws.{tree-none, tree-room, tree-more, tree-end}
 use Rattle.listing.proofs.lines.tree_lines.Statement.{statement}
 use Rattle.listing.proofs.lines.tree_lines.Tie as tie
