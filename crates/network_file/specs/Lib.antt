@@ -1,3 +1,16 @@
 pub mod Number
 pub mod Reading
 pub mod Writing
+pub mod Faults
+pub mod NumberLaws
+pub mod Taking
+pub mod Filling
+pub mod Told
+pub mod RoundTrip
+pub mod FileLaws
+pub mod FaultLaws
+pub mod LengthLaws
+pub mod Files
+pub mod NumberSteps
+pub mod ReadingSteps
+pub mod LinksSteps
