@@ -1,81 +1,124 @@
-// What a line says.
-use network::MAX_LINKS;
-use network::Network;
+// The parts of a line. None of it asks anything of the line.
+ghost use lib.ListN.{length};
+ghost use Prim.Native.Nat.{_≤_};
 
-fn put(text: &[u8]) {
-    io::write_all(1, text);
+pub struct Bytes {
+    pub count: usize,
+    pub bytes: [u8; 64],
 }
 
-// A word and a number behind it.
-fn put_number(word: &[u8], number: u64) {
-    put(word);
-    io::print_decimal(1, number);
+// Where x stands for the first time from a place on, or the text's end.
+pub fn find(text: &[u8], from: usize, x: u8) -> usize
+    requires { ⌜ from ≤ length (now text) ⌝ }
+    ensures { λ r. ⌜ (from ≤ r) × (r ≤ length (now (text .entry))) ⌝ }
+{
+    let mut i = from;
+    while i < text.len() {
+        if text[i] == x {
+            return i;
+        }
+        i += 1;
+    }
+    i
 }
 
-// A file's bytes, each in two digits.
-fn put_bytes(file: &[u8]) {
-    for i in 0..file.len() {
-        put_byte(file[i]);
+// The place behind the first x from a place on, or the line's end.
+pub fn behind(line: &[u8], from: usize, x: u8) -> usize {
+    if from > line.len() {
+        return from;
+    }
+    let i = find(line, from, x);
+    if i < line.len() {
+        return i + 1;
+    }
+    i
+}
+
+// The byte at a place, or 0 behind the line's end.
+pub fn byte_at(line: &[u8], i: usize) -> u8 {
+    if i < line.len() {
+        return line[i];
+    }
+    0
+}
+
+// A number with one digit more, as long as it has less than ten digits or begins below 4; other bytes leave it.
+fn with_digit(number: u32, x: u8, counts: bool) -> u32 {
+    if !counts {
+        return number;
+    }
+    if number > 399_999_999 {
+        return number;
+    }
+    match x {
+        b'0'..=b'9' => 10 * number + (x - b'0') as u32,
+        _ => number,
     }
 }
 
-fn put_byte(byte: u8) {
-    put(b" ");
-    io::print_hex(1, byte as u64, 2);
-}
-
-fn put_link(a: u8, b: u8, capacity: u32) {
-    put_number(b" last ", a as u64);
-    put_number(b" ", b as u64);
-    put_number(b" ", capacity as u64);
-}
-
-// The number of nodes, the number of links, and the last link.
-fn put_network(net: Network) {
-    let m = net.links;
-    put_number(b"accepted nodes ", net.nodes as u64);
-    put_number(b" links ", m as u64);
-    if m > 0 {
-        if m <= MAX_LINKS {
-            put_link(net.a[m - 1], net.b[m - 1], net.capacity[m - 1]);
+// How many spaces have passed.
+fn with_space(spaces: usize, x: u8) -> usize {
+    if x == b' ' {
+        if spaces < 9 {
+            return spaces + 1;
         }
     }
+    spaces
 }
 
-// What a file reads as.
-fn put_reading(file: &[u8]) {
-    let reading = network_file::read(file);
-    if reading.number == 0 {
-        put_network(reading.network);
-    } else {
-        put_number(b"refused ", reading.number as u64);
-        put_number(b" at ", reading.place as u64);
+// The decimal number behind a place and so many spaces.
+pub fn number(line: &[u8], from: usize, skipped: usize) -> u32 {
+    let mut number = 0;
+    let mut spaces = 0;
+    for i in from..line.len() {
+        let x = byte_at(line, i);
+        number = with_digit(number, x, spaces == skipped);
+        spaces = with_space(spaces, x);
+    }
+    number
+}
+
+// The value of a digit; 16 of any other byte.
+fn hex_digit(x: u8) -> u8 {
+    match x {
+        b'0'..=b'9' => x - b'0',
+        b'a'..=b'f' => x - b'a' + 10,
+        _ => 16,
     }
 }
 
-// A file's bytes, or only how many where they are many.
-fn put_file(file: &[u8]) {
-    if file.len() <= 16 {
-        put_bytes(file);
-    } else {
-        put_number(b" ", file.len() as u64);
-        put(b" bytes");
+// The byte whose low half is the digit.
+fn with_low(byte: u8, digit: u8) -> u8 {
+    byte / 16 * 16 + digit % 16
+}
+
+// Puts the digit x, of which `digits` came before, into its half of a byte, and gives how many came now.
+fn put_digit(bytes: &mut [u8; 64], digits: usize, x: u8) -> usize {
+    let value = hex_digit(x);
+    if value >= 16 {
+        return digits;
     }
+    if digits >= 128 {
+        return digits;
+    }
+    let i = digits / 2;
+    if digits % 2 == 0 {
+        bytes[i] = value * 16;
+    } else {
+        bytes[i] = with_low(bytes[i], value);
+    }
+    digits + 1
 }
 
-// A line: what it is about, the file, and what the file reads as.
-pub fn show(label: &[u8], file: &[u8]) {
-    put(label);
-    put(b":");
-    put_file(file);
-    put(b" -> ");
-    put_reading(file);
-    put(b"\n");
-}
-
-// A line on the first bytes of a file.
-pub fn show_cut(label: &[u8], file: &[u8], length: usize) {
-    if length <= file.len() {
-        show(label, &file[0..length]);
+// The bytes, at most 64, that stand in hexadecimal from a place on.
+pub fn hex_bytes(line: &[u8], from: usize) -> Bytes {
+    let mut bytes = [0u8; 64];
+    let mut digits = 0;
+    for i in from..line.len() {
+        digits = put_digit(&mut bytes, digits, byte_at(line, i));
+    }
+    Bytes {
+        count: digits / 2,
+        bytes,
     }
 }

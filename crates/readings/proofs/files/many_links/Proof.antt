@@ -1,15 +1,15 @@
--- `readings::limits::longest_file` is safe and ends. The measure is the number of links that are left.
+-- `readings::files::many_links` is safe and ends. The measure is the number of links that are left.
 use Prim.Native.Nat.{_-_}
 use native.Mathlib.Omega.{arith}
 use borrow.Author.Needs.{needs}
-use Rattle.readings.proofs.limits.longest_file.Statement.{statement}
-use Rattle.readings.proofs.limits.longest_file.Tie as tie
+use Rattle.readings.proofs.files.many_links.Statement.{statement}
+use Rattle.readings.proofs.files.many_links.Tie as tie
 
 abbrev Inv-loop : tie.InvT-loop
-Inv-loop file₀ k₀ file k = Unit {0}
+Inv-loop low high file₀ k₀ file k = Unit {0}
 
 abbrev μ-loop : tie.MeasureT-loop
-μ-loop file₀ k₀ file k = 256 - k
+μ-loop low high file₀ k₀ file k = 257 - k
 
 array-write-file : tie.Need-array-write-file Inv-loop μ-loop
 array-write-file c = search needs
@@ -23,8 +23,8 @@ array-write-file-3 c = search needs
 loop-holds : tie.Need-loop-holds Inv-loop μ-loop
 loop-holds c = tt
 
-put-link-requires : tie.Need-put-link-requires Inv-loop μ-loop
-put-link-requires c κs = search needs
+put-short-link-requires : tie.Need-put-short-link-requires Inv-loop μ-loop
+put-short-link-requires c κs = search needs
 
 add-k : tie.Need-add-k Inv-loop μ-loop
 add-k c = omega arith
@@ -38,8 +38,8 @@ loop-again c = tt
 returns : tie.Need-returns Inv-loop μ-loop
 returns c = search needs
 
-pub longest-file-spec : {M : Type 1} → statement M
-longest-file-spec =
+pub many-links-spec : {M : Type 1} → statement M
+many-links-spec =
     tie.close
     (tie.spec
     Inv-loop
@@ -48,7 +48,7 @@ longest-file-spec =
     array-write-file-2
     array-write-file-3
     loop-holds
-    put-link-requires
+    put-short-link-requires
     add-k
     loop-less
     loop-again
