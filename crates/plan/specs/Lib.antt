@@ -1,4 +1,14 @@
 pub mod Plan
 pub mod Calls
 pub mod Machine
+pub mod Run
 pub mod History
+pub mod MachineLaws
+pub mod ChecksLaws
+pub mod SoundParts
+pub mod SoundLaws
+pub mod SoundFacts
+pub mod CallParts
+pub mod CallLaws
+pub mod ChangeLaws
+pub mod OpenLaws

@@ -1,6 +1,6 @@
 -- "The history as a plain machine". It sees of a call its arguments, and of a flow's buffer only the length: that is what a `Call` is.
-use Prim.Native.Nat.{ℕ, zero, suc, _+_, _-_}
-use mathlib.Core.Bool.{Bool, true, false, not, _&&_}
+use Prim.Native.Nat.{ℕ, _-_}
+use mathlib.Core.Bool.{not}
 use mathlib.Core.List.{List, [], _∷_, _++_}
 use lib.ListN.{length, take, set, replicate}
 use lib.Dec.{ltb, eqb}
