@@ -1,6 +1,6 @@
 -- Numbers 1 to 9: a file is refused with a number at a place exactly when `Faults` says so.
-use Prim.Native.Nat.{ℕ, zero, suc, _+_, _≤_, _<_}
-use mathlib.Core.Path.{_≡_, refl, sym, ap, ap₂, subst, _∙_}
+use Prim.Native.Nat.{ℕ, suc, _+_, _≤_, _<_}
+use mathlib.Core.Path.{_≡_, refl, sym, ap₂, subst, _∙_}
 use mathlib.Core.Logic.{_≢_}
 use mathlib.Core.List.{List}
 use native.Mathlib.Omega.{arith}
@@ -9,12 +9,11 @@ use lib.ListN.{length, drop}
 use Rattle.network.specs.Checks.{accepted}
 use Rattle.network.specs.Limits.{maxGroups}
 use Rattle.network_file.specs.Number.{readGroups}
-use Rattle.network_file.specs.Reading.{readAll, readFile}
+use Rattle.network_file.specs.Reading.{readFile}
 use Rattle.network_file.specs.Faults.{Stands, Field, Next, number, over, following, Wrong, four, five, six, six-later, seven, eight, Due, first, then, Bad, one, two, three, by-row, nine, Fault}
 use Rattle.network_file.specs.NumberLaws.{groups-read, read-ends-early, read-too-long, read-zero-last, refused-value}
 use Rattle.network_file.specs.Taking.{Passes}
 use Rattle.network_file.specs.Told.{Told, is-refused, is-accepted, told}
-use Rattle.network_file.specs.declared.Number.{Number}
 use Rattle.network_file.specs.declared.Number.the-variants.{Value, Refused}
 use Rattle.network_file.specs.declared.Progress.{Progress}
 

@@ -1,14 +1,13 @@
 -- What reading and writing say of each other: what is accepted is within the limits and is written back; what is written is read back.
-use Prim.Native.Nat.{ℕ, zero, suc}
+use Prim.Native.Nat.{ℕ}
 use mathlib.Core.Path.{_≡_, refl, sym, ap, _∙_}
 use mathlib.Core.Logic.{_≢_}
 use mathlib.Core.List.{List}
 use native.Mathlib.Omega.{arith}
-use Rattle.network.specs.Checks.{accepted}
 use Rattle.network.specs.Network.{WithinLimits, noNetwork}
 use Rattle.network.specs.declared.Network.{Network}
 use Rattle.network_file.specs.Number.{Bytes}
-use Rattle.network_file.specs.Reading.{readAll, readFile}
+use Rattle.network_file.specs.Reading.{readFile}
 use Rattle.network_file.specs.Writing.{fileOf}
 use Rattle.network_file.specs.Told.{Told, is-refused, is-accepted, told}
 use Rattle.network_file.specs.RoundTrip.{all-read}

@@ -1,14 +1,13 @@
 -- The network that is filled while a file is read: its first k links are within the limits, its other places are 0.
 use Prim.Native.Nat.{ℕ, zero, suc, _+_, _≤_, _<_}
-use mathlib.Core.Path.{_≡_, refl, sym, ap, ap₂, _∙_}
+use mathlib.Core.Path.{_≡_, refl, ap, _∙_}
 use mathlib.Core.Logic.{_≢_}
 use mathlib.Core.Bool.{true, not}
-use mathlib.Core.List.{List, _++_}
+use mathlib.Core.List.{_++_}
 use native.Mathlib.Omega.{arith}
 use native.Mathlib.Decide.{ℕ-discrete}
-use lib.ListN.{length, set, replicate, length-set, length-replicate}
+use lib.ListN.{set, length-set, length-replicate}
 use lib.Seq.{getD-set-same, getD-set-other}
-use lib.Dec.{ltb, eqb, leb}
 use borrow.Author.Tests.{lt-ltb, ne-eqb, le-leb}
 use Rattle.network.specs.Basics.{at}
 use Rattle.network.specs.BasicsLaws.{all-in, none, _&_, test, blank-in, zeros-at}

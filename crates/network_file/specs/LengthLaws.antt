@@ -1,17 +1,17 @@
 -- How long numbers and files are, and that a file is made of bytes.
 use Prim.Native.Nat.{ℕ, zero, suc, _+_, _-_, _*_, _/_, _%_, _^_, _≤_, _<_}
-use mathlib.Core.Path.{_≡_, refl, sym, ap, _∙_}
+use mathlib.Core.Path.{_≡_, refl, ap}
 use mathlib.Core.Bool.{Bool, true, false}
 use mathlib.Core.List.{List, [], _∷_, _++_}
 use native.Mathlib.Omega.{arith}
 use native.Mathlib.Nat.{pow-suc, suc-mul}
-use lib.ListN.{length, replicate, length-append, length-replicate, getD-replicate}
+use lib.ListN.{length, length-append, length-replicate}
 use lib.Dec.{ltb}
 use borrow.Author.Tests.{ltb-true, ltb-false}
 use Rattle.network.specs.Basics.{at, all, every, blank}
-use Rattle.network.specs.Limits.{maxNodes, maxLinks, maxCapacity, maxGroups}
+use Rattle.network.specs.Limits.{maxLinks, maxCapacity, maxGroups}
 use Rattle.network.specs.Network.{networkFits, WithinLimits}
-use Rattle.network.specs.NetworkLaws.{nodes-pos, nodes-le, links-le, ends-within, capacity-le}
+use Rattle.network.specs.NetworkLaws.{nodes-le, links-le, ends-within, capacity-le}
 use Rattle.network.specs.declared.Network.{Network}
 use Rattle.network_file.specs.Number.{groupBytes, numberBytes, Bytes}
 use Rattle.network_file.specs.NumberLaws.{last-group, more-groups}
@@ -44,7 +44,7 @@ number-two v l = go (ltb v 128) refl
     go false e = rw (more-groups (maxGroups - 1) v (ltb-false v 128 e), last-group (maxGroups - 2) (v / 128) (omega arith)) (omega arith)
 
 -- ---- the file
-links-most : (net : Network) → networkFits net ≡ true → (k : ℕ) → k ≤ net .links → length (linkBytes net k) ≤ k * (2 + maxGroups)
+pub links-most : (net : Network) → networkFits net ≡ true → (k : ℕ) → k ≤ net .links → length (linkBytes net k) ≤ k * (2 + maxGroups)
 unfolding linkBytes
 links-most net e zero l = omega arith
 links-most net e (suc k) l =

@@ -14,3 +14,5 @@ pub mod Files
 pub mod NumberSteps
 pub mod ReadingSteps
 pub mod LinksSteps
+pub mod WritingSteps
+pub mod Readings

@@ -6,7 +6,7 @@ use mathlib.Core.List.{List}
 use native.Mathlib.Omega.{arith}
 use native.Mathlib.Decide.{ℕ-discrete}
 use native.Mathlib.Numerals.{add-one}
-use lib.ListN.{length, drop, set, replicate, length-drop, length-set, length-replicate}
+use lib.ListN.{length, set, replicate, length-drop}
 use Rattle.network.specs.Checks.{accepted}
 use Rattle.network.specs.Limits.{maxLinks}
 use Rattle.network.specs.declared.Network.{Network}
@@ -54,37 +54,36 @@ pub record LinksRead (s : List ℕ) (n m place : ℕ) (a b c : List ℕ) (next k
   pub within : next ≤ length s
   pub is : readLinks s k (going place (unread n m)) ≡ going next (made n m a b c)
 
-module _ (s : List ℕ) (n m place : ℕ) where
-  pub none-read : place ≤ length s → LinksRead s n m place (replicate maxLinks 0) (replicate maxLinks 0) (replicate maxLinks 0) place 0
-  unfolding readLinks
-  none-read l = record { some = omega arith; within = l; is = refl }
+pub none-read : (s : List ℕ) (n m place : ℕ) → place ≤ length s → LinksRead s n m place (replicate maxLinks 0) (replicate maxLinks 0) (replicate maxLinks 0) place 0
+unfolding readLinks
+none-read s n m place l = record { some = omega arith; within = l; is = refl }
 
-  module _ (a b c : List ℕ) (next k : ℕ) (h : LinksRead s n m place a b c next k) where
-    pub all-links : m ≤ k → going next (made n m a b c) ≡ readLinks s m (going place (unread n m))
-    all-links l = let q : k ≡ m = omega (arith, h .some) in sym (ap (λ (j : ℕ). readLinks s j (going place (unread n m))) (sym q) ∙ h .is)
+module _ {s : List ℕ} {n m place : ℕ} {a b c : List ℕ} {next k : ℕ} (h : LinksRead s n m place a b c next k) where
+  pub all-links : m ≤ k → going next (made n m a b c) ≡ readLinks s m (going place (unread n m))
+  all-links l = let q : k ≡ m = omega (arith, h .some) in sym (ap (λ (j : ℕ). readLinks s j (going place (unread n m))) (sym q) ∙ h .is)
 
-    module _ (km : k < m) (link : Link) (link-is : link ≡ linkAt s next n) where
-      by-link : ℕ → Progress
-      by-link e = accepted e (going (link .place) (made n m (set a k (link .a)) (set b k (link .b)) (set c k (link .capacity)))) (λ e. stopped e (link .place))
+  module _ (km : k < m) (link : Link) (link-is : link ≡ linkAt s next n) where
+    by-link : ℕ → Progress
+    by-link e = accepted e (going (link .place) (made n m (set a k (link .a)) (set b k (link .b)) (set c k (link .capacity)))) (λ e. stopped e (link .place))
 
-      link-next : readLinks s (suc k) (going place (unread n m)) ≡ by-link (link .number)
-      unfolding readLinks readLink by-link
-      link-next =
-          ap (λ (p : Progress). after p (readLink s k)) (h .is)
-          ∙ sym (ap (λ (l : Link). accepted (l .number) (going (l .place) (withLink (made n m a b c) k (l .a) (l .b) (l .capacity))) (λ e. stopped e (l .place))) link-is)
+    link-next : readLinks s (suc k) (going place (unread n m)) ≡ by-link (link .number)
+    unfolding readLinks readLink by-link
+    link-next =
+        ap (λ (p : Progress). after p (readLink s k)) (h .is)
+        ∙ sym (ap (λ (l : Link). accepted (l .number) (going (l .place) (withLink (made n m a b c) k (l .a) (l .b) (l .capacity))) (λ e. stopped e (l .place))) link-is)
 
-      pub one-more : link .number ≡ 0 → LinksRead s n m place (set a k (link .a)) (set b k (link .b)) (set c k (link .capacity)) (link .place) (k + 1)
-      unfolding by-link
-      one-more z =
-          let number-is = ap (λ (l : Link). l .number) link-is in
-          let place-is = ap (λ (l : Link). l .place) link-is in
-          let fits : link .place ≤ length s = omega (arith, link-within s next n (h .within) (sym number-is ∙ z)) in
-          record { some = omega arith; within = fits; is = rw add-one (link-next ∙ ap by-link z) }
+    pub one-more : link .number ≡ 0 → LinksRead s n m place (set a k (link .a)) (set b k (link .b)) (set c k (link .capacity)) (link .place) (k + 1)
+    unfolding by-link
+    one-more z =
+        let number-is = ap (λ (l : Link). l .number) link-is in
+        let place-is = ap (λ (l : Link). l .place) link-is in
+        let fits : link .place ≤ length s = omega (arith, link-within s next n (h .within) (sym number-is ∙ z)) in
+        record { some = omega arith; within = fits; is = rw add-one (link-next ∙ ap by-link z) }
 
-      pub one-refused : link .number ≢ 0 → stopped (link .number) (link .place) ≡ readLinks s m (going place (unread n m))
-      unfolding by-link
-      one-refused z = go (link .number) refl
-        where
-          go : (e : ℕ) → link .number ≡ e → stopped e (link .place) ≡ readLinks s m (going place (unread n m))
-          go zero q = absurd (z q)
-          go (suc e) q = sym (stays s (going place (unread n m)) e (link .place) (suc k) (link-next ∙ ap by-link q) m km)
+    pub one-refused : link .number ≢ 0 → stopped (link .number) (link .place) ≡ readLinks s m (going place (unread n m))
+    unfolding by-link
+    one-refused z = go (link .number) refl
+      where
+        go : (e : ℕ) → link .number ≡ e → stopped e (link .place) ≡ readLinks s m (going place (unread n m))
+        go zero q = absurd (z q)
+        go (suc e) q = sym (stays s (going place (unread n m)) e (link .place) (suc k) (link-next ∙ ap by-link q) m km)

@@ -1,18 +1,18 @@
 -- A number of the file: what is read is what was written, and each of 1 to 3 is given under its condition and no other.
 use Prim.Native.Nat.{ℕ, zero, suc, _+_, _-_, _*_, _/_, _%_, _^_, _≤_, _<_}
-use mathlib.Core.Path.{_≡_, refl, sym, ap, ap₂, subst, _∙_}
+use mathlib.Core.Path.{_≡_, refl, ap, ap₂, subst, _∙_}
 use mathlib.Core.Logic.{_≢_}
 use mathlib.Core.Bool.{Bool, true, false}
 use mathlib.Core.List.{List, [], _∷_, _++_}
 use native.Mathlib.Omega.{arith}
 use native.Mathlib.Nat.{pow-suc, one-le-pow}
-use lib.ListN.{length, take, drop, getD}
+use lib.ListN.{length, take}
 use lib.Dec.{ltb, eqb}
-use borrow.Author.Tests.{lt-ltb, le-ltb, eq-eqb, ne-eqb, ltb-true, ltb-false, eqb-true, eqb-false}
+use borrow.Author.Tests.{lt-ltb, le-ltb, ne-eqb, ltb-true, ltb-false, eqb-true, eqb-false}
 use Rattle.network.specs.Basics.{pick, at}
 use Rattle.network.specs.Limits.{maxGroups}
 use Rattle.network_file.specs.Number.{continued, readGroups, readNumber, groupBytes, numberBytes, Bytes}
-use Rattle.network_file.specs.Faults.{Groups, last, more, Topped, EndsEarly, TooLong, ZeroLast, Stands}
+use Rattle.network_file.specs.Faults.{Groups, last, more, Topped, EndsEarly, TooLong, ZeroLast}
 use Rattle.network_file.specs.declared.Number.{Number}
 use Rattle.network_file.specs.declared.Number.the-variants.{Value, Refused}
 

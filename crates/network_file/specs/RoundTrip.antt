@@ -2,26 +2,25 @@
 use Prim.Native.Nat.{ℕ, zero, suc, _+_, _-_, _^_, _≤_, _<_}
 use mathlib.Core.Path.{_≡_, refl, sym, ap, ap₂, _∙_}
 use mathlib.Core.Logic.{_≢_}
-use mathlib.Core.Bool.{Bool, true, not, _||_}
+use mathlib.Core.Bool.{true}
 use mathlib.Core.List.{List, [], _∷_, _++_, append-assoc, append-nil}
 use native.Mathlib.Omega.{arith}
 use native.Mathlib.Decide.{ℕ-discrete}
 use lib.ListN.{length, take, drop, set, replicate, length-append, take-append-drop, length-drop}
 use lib.Seq.{drop-at, set-at, take-suc, length-take-le, append-snoc}
-use lib.Dec.{ltb, eqb}
+use lib.Dec.{eqb}
 use borrow.Author.Tests.{lt-ltb, le-ltb, ne-eqb, eqb-true}
-use Rattle.network.specs.Basics.{pick, at, blank}
+use Rattle.network.specs.Basics.{at, blank}
 use Rattle.network.specs.BasicsLaws.{and-l, and-r, shown, head, rest}
 use Rattle.network.specs.Limits.{maxNodes, maxLinks, maxCapacity, maxGroups}
 use Rattle.network.specs.Network.{networkFits, WithinLimits}
 use Rattle.network.specs.NetworkLaws.{nodes-pos, nodes-le, links-le, ends-within, ends-differ, capacity-le}
 use Rattle.network.specs.declared.Network.{Network}
-use Rattle.network_file.specs.Number.{readNumber, numberBytes}
-use Rattle.network_file.specs.Reading.{nodesRow, linksRow, endRow, otherEndRow, capacityRow, aNumber, taken, linkAt, stopped, going, unread, withLink, readLink, after, readLinks, ended, readAll, readFile}
+use Rattle.network_file.specs.Number.{numberBytes}
+use Rattle.network_file.specs.Reading.{nodesRow, linksRow, endRow, otherEndRow, capacityRow, aNumber, taken, linkAt, going, unread, readLink, after, readLinks, readAll}
 use Rattle.network_file.specs.Writing.{linkBytes, fileOf}
 use Rattle.network_file.specs.NumberLaws.{read-written-number}
 use Rattle.network_file.specs.declared.Progress.{Progress}
-use Rattle.network_file.specs.declared.Link.{Link}
 
 -- ---- a number that was written at a place is taken there
 takes : (s front : List ℕ) (v : ℕ) (back : List ℕ) (place : ℕ) (row : ℕ → ℕ) → s ≡ front ++ (numberBytes v ++ back) → length front ≡ place → v < 128 ^ maxGroups

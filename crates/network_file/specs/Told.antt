@@ -18,7 +18,7 @@ use Rattle.network.specs.declared.Network.{Network}
 use Rattle.network_file.specs.Number.{numberBytes, Bytes}
 use Rattle.network_file.specs.Reading.{otherEndRow, capacityRow, linksRow, taking, noLink, linkAt, stopped, going, unread, withLink, readLink, after, readLinks, ended, readAll}
 use Rattle.network_file.specs.Writing.{linkBytes, fileOf}
-use Rattle.network_file.specs.Faults.{Field, nodes, links, end, otherEnd, capacity, number, over, linksLeft, Due, first, then, nine, Fault}
+use Rattle.network_file.specs.Faults.{nodes, links, end, otherEnd, capacity, number, over, linksLeft, Due, first, then, nine, Fault}
 use Rattle.network_file.specs.Taking.{nodes-passed, links-passed, end-passed, other-end-passed, capacity-passed, by-taking, stands-written}
 use Rattle.network_file.specs.Filling.{Filled, unread-filled, link-filled, bytes-more, filled-within}
 use Rattle.network_file.specs.declared.Link.{Link}

@@ -11,10 +11,13 @@ use Rattle.network.specs.declared.Network.{Network}
 use Rattle.network_file.specs.Number.{numberBytes}
 use Rattle.network_file.specs.declared.FileWritten.{FileWritten}
 
+abbrev pub bytesOfLink : ℕ → ℕ → ℕ → List ℕ
+bytesOfLink a b c = numberBytes a ++ (numberBytes b ++ numberBytes c)
+
 -- links 0 to k - 1
 unfoldable pub linkBytes : Network → ℕ → List ℕ
 linkBytes net zero = []
-linkBytes net (suc k) = linkBytes net k ++ (numberBytes (at (net .a) k) ++ (numberBytes (at (net .b) k) ++ numberBytes (at (net .capacity) k)))
+linkBytes net (suc k) = linkBytes net k ++ bytesOfLink (at (net .a) k) (at (net .b) k) (at (net .capacity) k)
 
 unfoldable pub fileOf : Network → List ℕ
 fileOf net = numberBytes (net .nodes) ++ (numberBytes (net .links) ++ linkBytes net (net .links))

@@ -1,10 +1,13 @@
 // The file of a network: numbers, a file read into a network, a network written into a file.
 mod numbers; // numbers in groups of seven bits
 mod reader; // a file read into a network
+mod writer; // a network written into a file
 
+use network::Network;
 pub use numbers::read_number;
 pub use reader::read;
-use network::Network;
+pub use writer::file_length;
+pub use writer::write;
 
 // What stands at the front of a part of a file: a number with the bytes that it has, or a refusal number.
 pub enum Number {

@@ -110,8 +110,7 @@ fn read_links(file: &[u8], n: usize, m: usize, place: usize) -> Progress
     let mut b = [0u8; MAX_LINKS];
     let mut capacity = [0u32; MAX_LINKS];
     let mut next = place;
-    let mut k = 0;
-    while k < m {
+    for k in 0..m {
         let link = read_link(file, next, n);
         if link.number != 0 {
             return stopped_at(link.number, link.place);
@@ -120,7 +119,6 @@ fn read_links(file: &[u8], n: usize, m: usize, place: usize) -> Progress
         b[k] = link.b;
         capacity[k] = link.capacity;
         next = link.place;
-        k += 1;
     }
     let network = Network {
         nodes: n,

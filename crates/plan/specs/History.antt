@@ -20,7 +20,7 @@ use Rattle.cut_tree.specs.declared.PairAnswer.{PairAnswer}
 use Rattle.cut_tree.specs.declared.PairAnswer.the-variants.{Refused}
 use Rattle.plan.specs.Plan.{sound, noStack}
 use Rattle.plan.specs.Calls.{openOf, pairOf, writeOf, writtenTo}
-use Rattle.plan.specs.Machine.{Call, change, undo, pair, flow, Entry, State, begin, next, state, numbers, refusal, networkAt, stackOf}
+use Rattle.plan.specs.Machine.{Call, change, undo, pair, flow, Entry, State, begin, next, state, numbers, numberAt, networkAt, stackOf}
 use Rattle.plan.specs.Run.{FlowReply, Reply, Event, numberIn, callsOf, numbersOf, Promised, planAfter, left}
 use Rattle.plan.specs.declared.Plan.{Plan}
 
@@ -81,7 +81,7 @@ Unaltered p (flow s t size) r = r .filled ≡ r .lent
 -- ---- one call of the list: the machine's state x at it, the plan p that it is given, and its reply
 pub record AtCall (net : Network) (x : State) (p : Plan) (c : Call) (r : Reply c) : Type 0 where
   pub plan : Agrees net x p
-  pub number : numberIn c r ≡ refusal (net .nodes) (net .links) x c
+  pub number : numberIn c r ≡ numberAt net x c
   pub if-accepted : numberIn c r ≡ 0 → Right (networkAt net (x .capacity)) (x .stack) c r
   pub if-refused : numberIn c r ≢ 0 → Unaltered p c r
 
@@ -133,7 +133,7 @@ pub record Claims (p q : Plan) (x : State) (es : List Event) : Type 0 where
   pub replies : Replies (p .network) (begin (p .network)) p es
   -- opening the file then written gives a fresh plan that is equal but for the stack
   pub reopened : Reopens q
-  -- its tree is a cut tree of its network, and of every two nodes the pair call's reply is a minimum cut
+  -- the plan's tree is a cut tree of its network, and of every two nodes the pair call's reply is a minimum cut
   pub cut-tree : CutTree (q .network) (q .tree)
   pub pairs : (s t : ℕ) → s < q .network .nodes → t < q .network .nodes → s ≢ t → RightPair (q .network) s t (pairOf q s t)
   -- and a flow call with one place for each link is accepted, and its total is the pair's weight

@@ -16,7 +16,7 @@ use Rattle.network.specs.Network.{withCapacity}
 use Rattle.network.specs.declared.Network.{Network}
 use Rattle.cut_tree.specs.Path.{among, pairRows}
 use Rattle.plan.specs.Plan.{maxDepth}
-use Rattle.plan.specs.Machine.{Call, change, undo, pair, flow, State, refusal, moves, next, numbers, padded, networkAt}
+use Rattle.plan.specs.Machine.{Call, change, undo, pair, flow, State, refusal, numberAt, moves, next, numbers, padded, networkAt}
 
 -- ---- rows that were passed
 module _ (b : Bool) (n later : ℕ) (e : check b (suc n) later ≡ 0) where
@@ -54,11 +54,11 @@ change-ok n m x k c q =
 
 -- ---- the state behind a call
 module _ (net : Network) (x : State) where
-  pub refused-next : (c : Call) (e : ℕ) → refusal (net .nodes) (net .links) x c ≡ suc e → next net x c ≡ x
+  pub refused-next : (c : Call) (e : ℕ) → numberAt net x c ≡ suc e → next net x c ≡ x
   unfolding next
   refused-next c e q = rw q
 
-  pub accepted-next : (c : Call) → refusal (net .nodes) (net .links) x c ≡ 0 → next net x c ≡ moves x c
+  pub accepted-next : (c : Call) → numberAt net x c ≡ 0 → next net x c ≡ moves x c
   unfolding next
   accepted-next c q = rw q
 
@@ -69,11 +69,11 @@ module _ (net : Network) (x : State) where
   -- pair and flow leave the state
   pub pair-next : (s t : ℕ) → next net x (pair s t) ≡ x
   unfolding next
-  pair-next s t = either (refusal (net .nodes) (net .links) x (pair s t))
+  pair-next s t = either (numberAt net x (pair s t))
 
   pub flow-next : (s t size : ℕ) → next net x (flow s t size) ≡ x
   unfolding next
-  flow-next s t size = either (refusal (net .nodes) (net .links) x (flow s t size))
+  flow-next s t size = either (numberAt net x (flow s t size))
 
 -- ---- a changed capacity, as an array
 pub padded-set : (cs : List ℕ) (k c : ℕ) → k < length cs → padded (set cs k c) ≡ set (padded cs) k c

@@ -11,7 +11,6 @@ use Rattle.network_file.specs.declared.Reading.{Reading}
 use Rattle.plan.specs.Plan.{noPlan}
 use Rattle.plan.specs.Calls.{fresh, opened, openOf}
 use Rattle.plan.specs.ChangeLaws.{by-refusal}
-use Rattle.plan.specs.declared.Opening.{Opening}
 
 module _ (file : List ℕ) (r : Reading) (e : r ≡ readFile file) where
   pub open-refused : r .number ≢ 0 → openOf file ≡ record { number = r .number; place = r .place; plan = noPlan }

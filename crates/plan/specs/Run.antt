@@ -61,7 +61,13 @@ abbrev pub Run : Plan → List Event → Type 0
 Run p [] = Unit {0}
 Run p (e ∷ es) = Promised p (e .call) (e .reply) × Run (planAfter p (e .call) (e .reply)) es
 
--- the plan that the list leaves: the plans so left are those reached from the opening
+-- the plan that the list leaves
 unfoldable pub left : Plan → List Event → Plan
 left p [] = p
 left p (e ∷ es) = left (planAfter p (e .call) (e .reply)) es
+
+-- "A plan is reached from its opening if such a list leaves it."
+pub record Reached (p q : Plan) : Type 0 where
+  pub events : List Event
+  pub run : Run p events
+  pub leaves : left p events ≡ q

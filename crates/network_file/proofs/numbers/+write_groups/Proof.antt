@@ -138,9 +138,10 @@ write-groups-returns-3 t c =
     let st = else2 .before .before .before in
     let n = else2 .before .if1 .left in
     let l = else2 .if2 .left in
-    let sure = c .before .before .write-groups .ensures in
-    (sure .0 ∙ place-more (st .args .out .now) (st .args .place) (st .args .left) (st .args .v) n l,
-    sure .1 ∙ sets-more (st .args .out .now) (st .args .place) (st .args .left) (st .args .v) n l)
+    let sure = c .before .before .write-groups .ensures in (
+      sure .0 ∙ place-more (st .args .out .now) (st .args .place) (st .args .left) (st .args .v) n l,
+      sure .1 ∙ sets-more (st .args .out .now) (st .args .place) (st .args .left) (st .args .v) n l,
+    )
 
 pub +write-groups-spec : {M : Type 1} → statement M
 +write-groups-spec = close μ-write-groups λ t. write-groups-lts.spec (

@@ -1,5 +1,4 @@
 -- `read_all` meets its contract: each return is one way through `readAll`, by what was taken and read.
-use Prim.Native.Nat.{_≤_}
 use mathlib.Core.Path.{_∙_}
 use native.Mathlib.Omega.{arith}
 use Rattle.network_file.specs.ReadingSteps.{behind, n-unread, n-zero, n-high, m-unread, m-high, links-refused, bytes-follow, all-done}
@@ -16,8 +15,7 @@ stopped-at-requires c κs = search needs
 returns : tie.Need-returns
 returns c =
     let t1 = c .before .before .before in
-    let st = t1 .before .before in
-    c .stopped-at .ensures ∙ n-unread (st .args .file .now) (t1 .take .result) (t1 .take .ensures) (c .before .if1 .taken)
+    c .stopped-at .ensures ∙ n-unread _ _ (t1 .take .ensures) (c .before .if1 .taken)
 
 stopped-at-requires-2 : tie.Need-stopped-at-requires-2
 stopped-at-requires-2 c κs = search needs
@@ -26,8 +24,7 @@ returns-2 : tie.Need-returns-2
 returns-2 c =
     let e1 = c .before .before .before in
     let t1 = e1 .before .before in
-    let st = t1 .before .before in
-    c .stopped-at2 .ensures ∙ n-zero (st .args .file .now) (t1 .take .result) (t1 .take .ensures) (e1 .if1 .left) (c .before .if2 .taken)
+    c .stopped-at2 .ensures ∙ n-zero _ _ (t1 .take .ensures) (e1 .if1 .left) (c .before .if2 .taken)
 
 cast-if3 : tie.Need-cast-if3
 cast-if3 c = search needs
@@ -40,16 +37,14 @@ returns-3 c =
     let e2 = c .before .before .before in
     let e1 = e2 .before .before in
     let t1 = e1 .before .before in
-    let st = t1 .before .before in
-    c .stopped-at3 .ensures ∙ n-high (st .args .file .now) (t1 .take .result) (t1 .take .ensures) (e1 .if1 .left) (e2 .if2 .left) (c .before .if3 .taken)
+    c .stopped-at3 .ensures ∙ n-high _ _ (t1 .take .ensures) (e1 .if1 .left) (e2 .if2 .left) (c .before .if3 .taken)
 
 take-requires-2 : tie.Need-take-requires-2
 take-requires-2 c κs =
     let e2 = c .before .before in
     let e1 = e2 .before .before in
     let t1 = e1 .before .before in
-    let st = t1 .before .before in
-    behind (st .args .file .now) 0 (t1 .take .result) (t1 .take .ensures) (omega arith)
+    behind _ 0 _ (t1 .take .ensures) (omega arith)
 
 stopped-at-requires-4 : tie.Need-stopped-at-requires-4
 stopped-at-requires-4 c κs = search needs
@@ -61,8 +56,7 @@ returns-4 c =
     let e2 = e3 .before .before in
     let e1 = e2 .before .before in
     let t1 = e1 .before .before in
-    let st = t1 .before .before in
-    c .stopped-at4 .ensures ∙ m-unread (st .args .file .now) (t1 .take .result) (t1 .take .ensures) (e1 .if1 .left) (e2 .if2 .left) (e3 .if3 .left) (t2 .take2 .result) (t2 .take2 .ensures) (c .before .if4 .taken)
+    c .stopped-at4 .ensures ∙ m-unread _ _ (t1 .take .ensures) (e1 .if1 .left) (e2 .if2 .left) (e3 .if3 .left) _ (t2 .take2 .ensures) (c .before .if4 .taken)
 
 cast-if5 : tie.Need-cast-if5
 cast-if5 c = search needs
@@ -78,8 +72,7 @@ returns-5 c =
     let e2 = e3 .before .before in
     let e1 = e2 .before .before in
     let t1 = e1 .before .before in
-    let st = t1 .before .before in
-    c .stopped-at5 .ensures ∙ m-high (st .args .file .now) (t1 .take .result) (t1 .take .ensures) (e1 .if1 .left) (e2 .if2 .left) (e3 .if3 .left) (t2 .take2 .result) (t2 .take2 .ensures) (e4 .if4 .left) (c .before .if5 .taken)
+    c .stopped-at5 .ensures ∙ m-high _ _ (t1 .take .ensures) (e1 .if1 .left) (e2 .if2 .left) (e3 .if3 .left) _ (t2 .take2 .ensures) (e4 .if4 .left) (c .before .if5 .taken)
 
 cast-read-links : tie.Need-cast-read-links
 cast-read-links c = search needs
@@ -96,8 +89,7 @@ read-links-requires c κs =
     let e2 = e3 .before .before in
     let e1 = e2 .before .before in
     let t1 = e1 .before .before in
-    let st = t1 .before .before in
-    (behind (st .args .file .now) (t1 .take .result .next) (t2 .take2 .result) (t2 .take2 .ensures) (behind (st .args .file .now) 0 (t1 .take .result) (t1 .take .ensures) (omega arith)), e3 .if3 .left, e5 .if5 .left)
+    (behind _ _ _ (t2 .take2 .ensures) (behind _ 0 _ (t1 .take .ensures) (omega arith)), e3 .if3 .left, e5 .if5 .left)
 
 returns-6 : tie.Need-returns-6
 returns-6 c =
@@ -109,8 +101,7 @@ returns-6 c =
     let e2 = e3 .before .before in
     let e1 = e2 .before .before in
     let t1 = e1 .before .before in
-    let st = t1 .before .before in
-    links-refused (st .args .file .now) (t1 .take .result) (t1 .take .ensures) (e1 .if1 .left) (e2 .if2 .left) (e3 .if3 .left) (t2 .take2 .result) (t2 .take2 .ensures) (e4 .if4 .left) (e5 .if5 .left) (ls .read-links .result) (ls .read-links .ensures) (c .if6 .taken)
+    links-refused _ _ (t1 .take .ensures) (e1 .if1 .left) (e2 .if2 .left) (e3 .if3 .left) _ (t2 .take2 .ensures) (e4 .if4 .left) (e5 .if5 .left) _ (ls .read-links .ensures) (c .if6 .taken)
 
 stopped-at-requires-6 : tie.Need-stopped-at-requires-6
 stopped-at-requires-6 c κs = search needs
@@ -126,8 +117,7 @@ returns-7 c =
     let e2 = e3 .before .before in
     let e1 = e2 .before .before in
     let t1 = e1 .before .before in
-    let st = t1 .before .before in
-    c .stopped-at6 .ensures ∙ bytes-follow (st .args .file .now) (t1 .take .result) (t1 .take .ensures) (e1 .if1 .left) (e2 .if2 .left) (e3 .if3 .left) (t2 .take2 .result) (t2 .take2 .ensures) (e4 .if4 .left) (e5 .if5 .left) (ls .read-links .result) (ls .read-links .ensures) (e6 .if6 .left) (c .before .if7 .taken)
+    c .stopped-at6 .ensures ∙ bytes-follow _ _ (t1 .take .ensures) (e1 .if1 .left) (e2 .if2 .left) (e3 .if3 .left) _ (t2 .take2 .ensures) (e4 .if4 .left) (e5 .if5 .left) _ (ls .read-links .ensures) (e6 .if6 .left) (c .before .if7 .taken)
 
 returns-8 : tie.Need-returns-8
 returns-8 c =
@@ -140,8 +130,7 @@ returns-8 c =
     let e2 = e3 .before .before in
     let e1 = e2 .before .before in
     let t1 = e1 .before .before in
-    let st = t1 .before .before in
-    all-done (st .args .file .now) (t1 .take .result) (t1 .take .ensures) (e1 .if1 .left) (e2 .if2 .left) (e3 .if3 .left) (t2 .take2 .result) (t2 .take2 .ensures) (e4 .if4 .left) (e5 .if5 .left) (ls .read-links .result) (ls .read-links .ensures) (e6 .if6 .left) (c .if7 .left)
+    all-done _ _ (t1 .take .ensures) (e1 .if1 .left) (e2 .if2 .left) (e3 .if3 .left) _ (t2 .take2 .ensures) (e4 .if4 .left) (e5 .if5 .left) _ (ls .read-links .ensures) (e6 .if6 .left) (c .if7 .left)
 
 pub read-all-spec : {M : Type 1} → statement M
 read-all-spec =

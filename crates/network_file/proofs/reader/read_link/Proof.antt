@@ -16,8 +16,7 @@ no-link-requires c κs = search needs
 returns : tie.Need-returns
 returns c =
     let t1 = c .before .before .before in
-    let st = t1 .before .before in
-    c .no-link .ensures ∙ a-unread (st .args .file .now) (st .args .place) (st .args .n) (t1 .take .result) (t1 .take .ensures) (c .before .if1 .taken)
+    c .no-link .ensures ∙ a-unread _ _ _ _ (t1 .take .ensures) (c .before .if1 .taken)
 
 cast-if2 : tie.Need-cast-if2
 cast-if2 c = search needs
@@ -29,15 +28,14 @@ returns-2 : tie.Need-returns-2
 returns-2 c =
     let e1 = c .before .before .before in
     let t1 = e1 .before .before in
-    let st = t1 .before .before in
-    c .no-link2 .ensures ∙ a-outside (st .args .file .now) (st .args .place) (st .args .n) (t1 .take .result) (t1 .take .ensures) (e1 .if1 .left) (c .before .if2 .taken)
+    c .no-link2 .ensures ∙ a-outside _ _ _ _ (t1 .take .ensures) (e1 .if1 .left) (c .before .if2 .taken)
 
 take-requires-2 : tie.Need-take-requires-2
 take-requires-2 c κs =
     let e1 = c .before .before in
     let t1 = e1 .before .before in
     let st = t1 .before .before in
-    behind (st .args .file .now) (st .args .place) (t1 .take .result) (t1 .take .ensures) (st .pre .0)
+    behind _ _ _ (t1 .take .ensures) (st .pre .0)
 
 no-link-requires-3 : tie.Need-no-link-requires-3
 no-link-requires-3 c κs = search needs
@@ -48,8 +46,7 @@ returns-3 c =
     let e2 = t2 .before in
     let e1 = e2 .before .before in
     let t1 = e1 .before .before in
-    let st = t1 .before .before in
-    c .no-link3 .ensures ∙ b-unread (st .args .file .now) (st .args .place) (st .args .n) (t1 .take .result) (t1 .take .ensures) (e1 .if1 .left) (e2 .if2 .left) (t2 .take2 .result) (t2 .take2 .ensures) (c .before .if3 .taken)
+    c .no-link3 .ensures ∙ b-unread _ _ _ _ (t1 .take .ensures) (e1 .if1 .left) (e2 .if2 .left) _ (t2 .take2 .ensures) (c .before .if3 .taken)
 
 cast-if4 : tie.Need-cast-if4
 cast-if4 c = search needs
@@ -64,8 +61,7 @@ returns-4 c =
     let e2 = t2 .before in
     let e1 = e2 .before .before in
     let t1 = e1 .before .before in
-    let st = t1 .before .before in
-    c .no-link4 .ensures ∙ b-outside (st .args .file .now) (st .args .place) (st .args .n) (t1 .take .result) (t1 .take .ensures) (e1 .if1 .left) (e2 .if2 .left) (t2 .take2 .result) (t2 .take2 .ensures) (e3 .if3 .left) (c .before .if4 .taken)
+    c .no-link4 .ensures ∙ b-outside _ _ _ _ (t1 .take .ensures) (e1 .if1 .left) (e2 .if2 .left) _ (t2 .take2 .ensures) (e3 .if3 .left) (c .before .if4 .taken)
 
 no-link-requires-5 : tie.Need-no-link-requires-5
 no-link-requires-5 c κs = search needs
@@ -78,8 +74,7 @@ returns-5 c =
     let e2 = t2 .before in
     let e1 = e2 .before .before in
     let t1 = e1 .before .before in
-    let st = t1 .before .before in
-    c .no-link5 .ensures ∙ b-equal (st .args .file .now) (st .args .place) (st .args .n) (t1 .take .result) (t1 .take .ensures) (e1 .if1 .left) (e2 .if2 .left) (t2 .take2 .result) (t2 .take2 .ensures) (e3 .if3 .left) (e4 .if4 .left) (c .before .if5 .taken)
+    c .no-link5 .ensures ∙ b-equal _ _ _ _ (t1 .take .ensures) (e1 .if1 .left) (e2 .if2 .left) _ (t2 .take2 .ensures) (e3 .if3 .left) (e4 .if4 .left) (c .before .if5 .taken)
 
 take-requires-3 : tie.Need-take-requires-3
 take-requires-3 c κs =
@@ -90,7 +85,7 @@ take-requires-3 c κs =
     let e1 = e2 .before .before in
     let t1 = e1 .before .before in
     let st = t1 .before .before in
-    behind (st .args .file .now) (t1 .take .result .next) (t2 .take2 .result) (t2 .take2 .ensures) (behind (st .args .file .now) (st .args .place) (t1 .take .result) (t1 .take .ensures) (st .pre .0))
+    behind _ _ _ (t2 .take2 .ensures) (behind _ _ _ (t1 .take .ensures) (st .pre .0))
 
 no-link-requires-6 : tie.Need-no-link-requires-6
 no-link-requires-6 c κs = search needs
@@ -105,8 +100,7 @@ returns-6 c =
     let e2 = t2 .before in
     let e1 = e2 .before .before in
     let t1 = e1 .before .before in
-    let st = t1 .before .before in
-    c .no-link6 .ensures ∙ c-unread (st .args .file .now) (st .args .place) (st .args .n) (t1 .take .result) (t1 .take .ensures) (e1 .if1 .left) (e2 .if2 .left) (t2 .take2 .result) (t2 .take2 .ensures) (e3 .if3 .left) (e4 .if4 .left) (e5 .if5 .left) (t3 .take3 .result) (t3 .take3 .ensures) (c .before .if6 .taken)
+    c .no-link6 .ensures ∙ c-unread _ _ _ _ (t1 .take .ensures) (e1 .if1 .left) (e2 .if2 .left) _ (t2 .take2 .ensures) (e3 .if3 .left) (e4 .if4 .left) (e5 .if5 .left) _ (t3 .take3 .ensures) (c .before .if6 .taken)
 
 no-link-requires-7 : tie.Need-no-link-requires-7
 no-link-requires-7 c κs = search needs
@@ -122,8 +116,7 @@ returns-7 c =
     let e2 = t2 .before in
     let e1 = e2 .before .before in
     let t1 = e1 .before .before in
-    let st = t1 .before .before in
-    c .no-link7 .ensures ∙ c-outside (st .args .file .now) (st .args .place) (st .args .n) (t1 .take .result) (t1 .take .ensures) (e1 .if1 .left) (e2 .if2 .left) (t2 .take2 .result) (t2 .take2 .ensures) (e3 .if3 .left) (e4 .if4 .left) (e5 .if5 .left) (t3 .take3 .result) (t3 .take3 .ensures) (e6 .if6 .left) (c .before .if7 .taken)
+    c .no-link7 .ensures ∙ c-outside _ _ _ _ (t1 .take .ensures) (e1 .if1 .left) (e2 .if2 .left) _ (t2 .take2 .ensures) (e3 .if3 .left) (e4 .if4 .left) (e5 .if5 .left) _ (t3 .take3 .ensures) (e6 .if6 .left) (c .before .if7 .taken)
 
 cast-t9 : tie.Need-cast-t9
 cast-t9 c =
@@ -152,8 +145,7 @@ returns-8 c =
     let e2 = t2 .before in
     let e1 = e2 .before .before in
     let t1 = e1 .before .before in
-    let st = t1 .before .before in
-    link-read (st .args .file .now) (st .args .place) (st .args .n) (t1 .take .result) (t1 .take .ensures) (e1 .if1 .left) (e2 .if2 .left) (t2 .take2 .result) (t2 .take2 .ensures) (e3 .if3 .left) (e4 .if4 .left) (e5 .if5 .left) (t3 .take3 .result) (t3 .take3 .ensures) (e6 .if6 .left) (e7 .if7 .left)
+    link-read _ _ _ _ (t1 .take .ensures) (e1 .if1 .left) (e2 .if2 .left) _ (t2 .take2 .ensures) (e3 .if3 .left) (e4 .if4 .left) (e5 .if5 .left) _ (t3 .take3 .ensures) (e6 .if6 .left) (e7 .if7 .left)
 
 pub read-link-spec : {M : Type 1} → statement M
 read-link-spec =

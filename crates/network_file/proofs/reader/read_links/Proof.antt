@@ -1,7 +1,6 @@
 -- `read_links` meets its contract. The loop's invariant: the arrays hold the first k links, and reading goes on at `next`.
-use Prim.Native.Nat.{_-_, _≤_}
-use mathlib.Core.Path.{_≡_, _∙_}
-use native.Mathlib.Omega.{arith}
+use Prim.Native.Nat.{_-_}
+use mathlib.Core.Path.{_∙_}
 use Rattle.network_file.specs.LinksSteps.{LinksRead, none-read, all-links, one-more, one-refused}
 use borrow.Author.Needs.{needs}
 use Rattle.network_file.proofs.reader.read_links.Statement.{statement}
@@ -26,10 +25,8 @@ returns : tie.Need-returns Inv-loop μ-loop
 returns c =
     let inside = c .before .before .before .before in
     let at = inside .before .loop in
-    let st = inside .before .before .before in
     c .stopped-at .ensures
-    ∙ one-refused (st .args .file .now) (st .args .n) (st .args .m) (st .args .place) (at .a) (at .b) (at .capacity) (at .next) (at .k) (at .inv) (inside .loop-test .taken)
-    (c .before .before .before .read-link .result) (c .before .before .before .read-link .ensures) (c .before .if1 .taken)
+    ∙ one-refused (at .inv) (inside .loop-test .taken) _ (c .before .before .before .read-link .ensures) (c .before .if1 .taken)
 
 array-write-a : tie.Need-array-write-a Inv-loop μ-loop
 array-write-a c = search needs
@@ -53,15 +50,11 @@ loop-again : tie.Need-loop-again Inv-loop μ-loop
 loop-again c =
     let inside = c .before .before .before in
     let at = inside .before .loop in
-    let st = inside .before .before .before in
-    one-more (st .args .file .now) (st .args .n) (st .args .m) (st .args .place) (at .a) (at .b) (at .capacity) (at .next) (at .k) (at .inv) (inside .loop-test .taken)
-    (c .before .before .read-link .result) (c .before .before .read-link .ensures) (c .if1 .left)
+    one-more (at .inv) (inside .loop-test .taken) _ (c .before .before .read-link .ensures) (c .if1 .left)
 
 returns-2 : tie.Need-returns-2 Inv-loop μ-loop
 returns-2 c =
-    let at = c .before .loop in
-    let st = c .before .before .before in
-    all-links (st .args .file .now) (st .args .n) (st .args .m) (st .args .place) (at .a) (at .b) (at .capacity) (at .next) (at .k) (at .inv) (c .loop-test .left)
+    all-links (c .before .loop .inv) (c .loop-test .left)
 
 pub read-links-spec : {M : Type 1} → statement M
 read-links-spec =

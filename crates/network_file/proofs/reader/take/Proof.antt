@@ -1,4 +1,6 @@
 -- `take` meets its contract: what is read is refused, or a value that does not reach past the end.
+use Prim.Native.Nat.{ℕ}
+use mathlib.Core.List.{List}
 use mathlib.Core.Path.{_≡_, sym, ap, _∙_}
 use native.Mathlib.Omega.{arith}
 use lib.ListN.{drop}
@@ -29,11 +31,14 @@ enum-known-v : tie.Need-enum-known-v
 enum-known-v c = search needs
 
 -- what was read, of the list that stands behind the slice
-what : (c : tie.After-read-number) → c .read-number .result ≡ readNumber (drop (c .before .before .before .args .place) (c .before .before .before .args .file .now))
-what c = c .read-number .ensures ∙ ap readNumber (rest-is (c .before .before .before .args .file .now) (c .before .before .before .args .place))
+abbrev left : tie.Start → List ℕ
+left st = drop (st .args .place) (st .args .file .now)
+
+what : (c : tie.After-read-number) → c .read-number .result ≡ readNumber (left (c .before .before .before))
+what c = let st = c .before .before .before in c .read-number .ensures ∙ ap readNumber (rest-is (st .args .file .now) (st .args .place))
 
 value : (c : tie.After-known-told2)
-    → readNumber (drop (c .before .before .before .before .before .before .args .place) (c .before .before .before .before .before .before .args .file .now)) ≡ Value (c .before .v .given .0 .0) (c .before .v .given .0 .1 .0)
+    → readNumber (left (c .before .before .before .before .before .before)) ≡ Value (c .before .v .given .0 .0) (c .before .v .given .0 .1 .0)
 value c = sym (what (c .before .before .before)) ∙ c .before .v .given .1
 
 add-t12 : tie.Need-add-t12

@@ -1,5 +1,5 @@
 -- `plan::changes::change` meets its contract. Once no row held, the link and its capacity stand within the limits and the stack has room.
-use mathlib.Core.Path.{_≡_, sym, ap, _∙_}
+use mathlib.Core.Path.{sym, ap, _∙_}
 use Prim.Native.Nat.{_<_}
 use native.Mathlib.Omega.{arith}
 use borrow.Author.Needs.{needs}

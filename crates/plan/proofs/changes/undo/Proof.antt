@@ -1,5 +1,5 @@
 -- `plan::changes::undo` meets its contract. Once no row held, the stack has a top, which is a link with a capacity within the limits.
-use mathlib.Core.Path.{_≡_, sym, ap, _∙_}
+use mathlib.Core.Path.{sym, ap, _∙_}
 use Prim.Native.Nat.{_-_, _≤_, _<_}
 use native.Mathlib.Omega.{arith}
 use borrow.Author.Needs.{needs}
