@@ -1,33 +1,57 @@
-// The file of a command, opened.
+// Commands that open a file.
+use crate::line::Given;
 use crate::line::hex_bytes;
-use crate::line::number;
-use crate::print::put_network;
+use crate::print::put;
 use crate::print::put_number;
 use crate::print::put_refusal;
 use network::MAX_LINKS;
+use network::Network;
+use plan::Plan;
 
-fn open_file(file: &[u8]) {
-    let reading = network_file::read(file);
-    if reading.number == 0 {
-        put_network(reading.network);
-    } else {
-        put_refusal(reading.number);
-        put_number(b" at ", reading.place as u64);
+fn put_link(a: u8, b: u8, capacity: u32) {
+    put_number(b" ", a as u64);
+    put_number(b" ", b as u64);
+    put_number(b" ", capacity as u64);
+}
+
+// The number of nodes, the number of links, and the last link.
+fn put_network(net: Network) {
+    let m = net.links;
+    put_number(b" accepted nodes ", net.nodes as u64);
+    put_number(b" links ", m as u64);
+    if m > 0 {
+        if m <= MAX_LINKS {
+            put(b" last");
+            put_link(net.a[m - 1], net.b[m - 1], net.capacity[m - 1]);
+        }
     }
+}
+
+fn open_file(file: &[u8]) -> Plan {
+    let opening = plan::open(file);
+    let plan = opening.plan;
+    if opening.number == 0 {
+        put_network(plan.network);
+    } else {
+        put_refusal(opening.number);
+        put_number(b" at ", opening.place as u64);
+    }
+    plan
 }
 
 // Opens the first bytes of a file.
-fn open_part(file: &[u8], length: usize) {
+pub fn open_part(file: &[u8], length: usize) -> Plan {
     if length <= file.len() {
-        open_file(&file[0..length]);
+        return open_file(&file[0..length]);
     }
+    open_file(file)
 }
 
 // `open BYTES`: the file of at most 64 bytes that the line gives in hexadecimal.
-pub fn open(line: &[u8], arguments: usize) {
+pub fn open(line: &[u8], arguments: usize) -> Plan {
     let read = hex_bytes(line, arguments);
     let file = read.bytes;
-    open_part(&file, read.count);
+    open_part(&file, read.count)
 }
 
 // Link k of the longest file: to the next node, of a capacity up to 1,000,000, in three bytes.
@@ -55,9 +79,9 @@ fn longest_file() -> [u8; 1284] {
 }
 
 // `longest LENGTH`: the longest file with one byte more, its first LENGTH bytes.
-pub fn open_longest(line: &[u8], arguments: usize) {
+pub fn open_longest(given: Given) -> Plan {
     let file = longest_file();
-    open_part(&file, number(line, arguments, 0) as usize);
+    open_part(&file, given.first as usize)
 }
 
 // The second end of link k: 1.
@@ -80,9 +104,7 @@ fn many_links(low: u8, high: u8) -> [u8; 774] {
 }
 
 // `many LOW HIGH LENGTH`: a file of 257 links with m in the bytes LOW and HIGH, its first LENGTH bytes.
-pub fn open_many(line: &[u8], arguments: usize) {
-    let low = number(line, arguments, 0) % 256;
-    let high = number(line, arguments, 1) % 256;
-    let file = many_links(low as u8, high as u8);
-    open_part(&file, number(line, arguments, 2) as usize);
+pub fn open_many(given: Given) -> Plan {
+    let file = many_links((given.first % 256) as u8, (given.second % 256) as u8);
+    open_part(&file, given.third as usize)
 }

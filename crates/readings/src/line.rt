@@ -7,6 +7,13 @@ pub struct Bytes {
     pub bytes: [u8; 64],
 }
 
+// The first three arguments, as numbers.
+pub struct Given {
+    pub first: u32,
+    pub second: u32,
+    pub third: u32,
+}
+
 // Where x stands for the first time from a place on, or the text's end.
 pub fn find(text: &[u8], from: usize, x: u8) -> usize
     requires { ⌜ from ≤ length (now text) ⌝ }
@@ -67,7 +74,7 @@ fn with_space(spaces: usize, x: u8) -> usize {
 }
 
 // The decimal number behind a place and so many spaces.
-pub fn number(line: &[u8], from: usize, skipped: usize) -> u32 {
+fn number(line: &[u8], from: usize, skipped: usize) -> u32 {
     let mut number = 0;
     let mut spaces = 0;
     for i in from..line.len() {
@@ -76,6 +83,14 @@ pub fn number(line: &[u8], from: usize, skipped: usize) -> u32 {
         spaces = with_space(spaces, x);
     }
     number
+}
+
+pub fn numbers(line: &[u8], from: usize) -> Given {
+    Given {
+        first: number(line, from, 0),
+        second: number(line, from, 1),
+        third: number(line, from, 2),
+    }
 }
 
 // The value of a digit; 16 of any other byte.

@@ -1,6 +1,4 @@
-// What is printed.
-use network::MAX_LINKS;
-use network::Network;
+// Words, numbers and bytes.
 
 pub fn put(text: &[u8]) {
     io::write_all(1, text);
@@ -12,25 +10,34 @@ pub fn put_number(words: &[u8], number: u64) {
     io::print_decimal(1, number);
 }
 
-pub fn put_refusal(number: u32) {
-    put_number(b"refused ", number as u64);
-}
-
-// A link k and its ends and capacity.
-fn put_link(a: u8, b: u8, capacity: u32) {
-    put_number(b" last ", a as u64);
-    put_number(b" ", b as u64);
-    put_number(b" ", capacity as u64);
-}
-
-// The number of nodes, the number of links, and the last link.
-pub fn put_network(net: Network) {
-    let m = net.links;
-    put_number(b"accepted nodes ", net.nodes as u64);
-    put_number(b" links ", m as u64);
-    if m > 0 {
-        if m <= MAX_LINKS {
-            put_link(net.a[m - 1], net.b[m - 1], net.capacity[m - 1]);
-        }
+// The size of a signed number: at -(n + 1) the complement is n.
+pub fn size(z: i32) -> u32 {
+    if z < 0 {
+        return (!z) as u32 + 1;
     }
+    z as u32
+}
+
+pub fn put_signed(z: i32) {
+    if z < 0 {
+        put_number(b" -", size(z) as u64);
+    } else {
+        put_number(b" ", size(z) as u64);
+    }
+}
+
+fn put_byte(byte: u8) {
+    put(b" ");
+    io::print_hex(1, byte as u64, 2);
+}
+
+// Bytes, each in two digits.
+pub fn put_bytes(bytes: &[u8]) {
+    for i in 0..bytes.len() {
+        put_byte(bytes[i]);
+    }
+}
+
+pub fn put_refusal(number: u32) {
+    put_number(b" refused ", number as u64);
 }

@@ -7,10 +7,16 @@ use Rattle.readings.proofs.run.Statement.{statement}
 use Rattle.readings.proofs.run.Tie as tie
 
 abbrev Inv-loop : tie.InvT-loop
-Inv-loop text start₀ start = start ≤ length text
+Inv-loop text plan₀ start₀ plan start = start ≤ length text
 
 abbrev μ-loop : tie.MeasureT-loop
-μ-loop text start₀ start = length text - start
+μ-loop text plan₀ start₀ plan start = length text - start
+
+slice-aggregate-open : tie.Need-slice-aggregate-open Inv-loop μ-loop
+slice-aggregate-open c = search needs
+
+open-requires : tie.Need-open-requires Inv-loop μ-loop
+open-requires c κs = search needs
 
 loop-holds : tie.Need-loop-holds Inv-loop μ-loop
 loop-holds c = search needs
@@ -51,6 +57,8 @@ run-spec =
     (tie.spec
     Inv-loop
     μ-loop
+    slice-aggregate-open
+    open-requires
     loop-holds
     find-requires
     sub-turn
