@@ -44,6 +44,7 @@ fn as_before(flow: i32) -> u32 {
     if flow == BEFORE { 1 } else { 0 }
 }
 
+// A sum, stopped far above all that is counted here, so that it always fits.
 fn plus(total: u64, more: u32) -> u64 {
     if total < 1_000_000_000_000 {
         return total + more as u64;

@@ -1,7 +1,8 @@
-// The parts of a line. None of it asks anything of the line.
+// The parts of a line. A line may hold anything: what is missing reads as 0, and what is no digit is passed over.
 ghost use lib.ListN.{length};
 ghost use Prim.Native.Nat.{_≤_};
 
+// The first `count` of these bytes.
 pub struct Bytes {
     pub count: usize,
     pub bytes: [u8; 64],
@@ -49,7 +50,7 @@ pub fn byte_at(line: &[u8], i: usize) -> u8 {
     0
 }
 
-// A number with one digit more, as long as it has less than ten digits or begins below 4; other bytes leave it.
+// A number with one digit more, where that is below 4,000,000,000 and so fits; other bytes leave it.
 fn with_digit(number: u32, x: u8, counts: bool) -> u32 {
     if !counts {
         return number;
