@@ -1,0 +1,70 @@
+// What was compared, and how often it disagreed. The counts stay far below 2^64.
+use libc::STDOUT_FILENO;
+use std::num::wrapping_add_u64;
+
+pub struct Tally {
+    pub networks: u64,
+    pub changes: u64,
+    pub pairs: u64,
+    pub wrong: u64,
+}
+
+pub fn nothing() -> Tally {
+    Tally {
+        networks: 0,
+        changes: 0,
+        pairs: 0,
+        wrong: 0,
+    }
+}
+
+fn wrong_if(right: bool) -> u64 {
+    if right { 0 } else { 1 }
+}
+
+pub fn count_network(t: Tally, right: bool) -> Tally {
+    Tally {
+        networks: wrapping_add_u64(t.networks, 1),
+        changes: t.changes,
+        pairs: t.pairs,
+        wrong: wrapping_add_u64(t.wrong, wrong_if(right)),
+    }
+}
+
+pub fn count_change(t: Tally, right: bool) -> Tally {
+    Tally {
+        networks: t.networks,
+        changes: wrapping_add_u64(t.changes, 1),
+        pairs: t.pairs,
+        wrong: wrapping_add_u64(t.wrong, wrong_if(right)),
+    }
+}
+
+pub fn count_pair(t: Tally, right: bool) -> Tally {
+    Tally {
+        networks: t.networks,
+        changes: t.changes,
+        pairs: wrapping_add_u64(t.pairs, 1),
+        wrong: wrapping_add_u64(t.wrong, wrong_if(right)),
+    }
+}
+
+// " 12 things", where there are any
+fn print_count(n: u64, what: &[u8]) {
+    if n == 0 {
+        return;
+    }
+    io::write_all(STDOUT_FILENO, b" ");
+    io::print_decimal(STDOUT_FILENO, n);
+    io::write_all(STDOUT_FILENO, what);
+}
+
+pub fn print(name: &[u8], t: Tally) {
+    io::write_all(STDOUT_FILENO, name);
+    print_count(t.networks, b" networks");
+    print_count(t.changes, b" changes");
+    print_count(t.pairs, b" pairs");
+    io::write_all(STDOUT_FILENO, b" ");
+    io::print_decimal(STDOUT_FILENO, t.wrong);
+    io::write_all(STDOUT_FILENO, b" disagreements\n");
+}
