@@ -14,9 +14,11 @@ use Rattle.min_cut.specs.WordLaws.{holds-out}
 use Rattle.node_set.specs.Set.{removed}
 use Rattle.node_set.specs.SetLaws.{removed-same, removed-other}
 use Rattle.network.specs.Basics.{pick, at}
-use Rattle.cut_tree.specs.Rule.{moved, recorded, stepped}
+use Rattle.cut_tree.specs.Rule.{moved, placed, recorded, stepped}
 use Rattle.cut_tree.specs.RuleLaws.{length-moved, moved-at}
 use Rattle.cut_tree.specs.RebuildParts.{movedOne}
+use Rattle.cut_tree.specs.declared.Tree.{Tree}
+use Rattle.cut_tree.specs.declared.Steps.{Steps}
 use Rattle.cut_tree.specs.declared.Built.{Built}
 use Rattle.cut_tree.specs.declared.StepCut.{StepCut}
 
@@ -69,19 +71,17 @@ pub moving-end : (p : List ℕ) (x s t : ℕ) (r : List ℕ) → x ≡ 0 → mov
 moving-end p x s t r e g = sym (moved-none s t 0 p) ∙ (rw e at g)
 
 -- ---- a node placed
-module _ (b : Built) (s t : ℕ) (x : StepCut) (ps : List ℕ) (z : Bool) (e : ps ≡ moved (x .side) s t 0 (b .tree .parent)) (h : z ≡ holds (x .side) (at (b .tree .parent) t)) where
-  pub stepped-between : z ≡ true → record {
-    tree = record { parent = set (set ps s (at (b .tree .parent) t)) t s; weight = set (set (b .tree .weight) s (at (b .tree .weight) t)) t (x .value) };
-    steps = recorded (b .steps) s t (x .side) (x .value);
-    count = b .count + x .anew;
-  } ≡ stepped b s t x
-  unfolding stepped
-  stepped-between q = rw (e, ← h, q) refl
+module _ (tree : Tree) (s t X w : ℕ) (ps : List ℕ) (z : Bool) (e : ps ≡ moved X s t 0 (tree .parent)) (h : z ≡ holds X (at (tree .parent) t)) where
+  pub placed-between : z ≡ true → record { parent = set (set ps s (at (tree .parent) t)) t s; weight = set (set (tree .weight) s (at (tree .weight) t)) t w }
+      ≡ placed (holds X (at (tree .parent) t)) tree s t X w
+  placed-between q = rw (e, ← h, q) refl
 
-  pub stepped-beside : z ≡ false → record {
-    tree = record { parent = set ps s t; weight = set (b .tree .weight) s (x .value) };
-    steps = recorded (b .steps) s t (x .side) (x .value);
-    count = b .count + x .anew;
-  } ≡ stepped b s t x
-  unfolding stepped
-  stepped-beside q = rw (e, ← h, q) refl
+  pub placed-beside : z ≡ false → record { parent = set ps s t; weight = set (tree .weight) s w } ≡ placed (holds X (at (tree .parent) t)) tree s t X w
+  placed-beside q = rw (e, ← h, q) refl
+
+pub stepped-by : (b : Built) (s t : ℕ) (x : StepCut) (tree : Tree) (steps : Steps)
+    → tree ≡ placed (holds (x .side) (at (b .tree .parent) t)) (b .tree) s t (x .side) (x .value)
+    → steps ≡ recorded (b .steps) s t (x .side) (x .value)
+    → record { tree = tree; steps = steps; count = b .count + x .anew } ≡ stepped b s t x
+unfolding stepped
+stepped-by b s t x tree steps e f = rw (e, f) refl

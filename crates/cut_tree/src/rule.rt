@@ -5,7 +5,11 @@ use crate::Steps;
 use crate::Tree;
 use network::MAX_NODES;
 ghost use mathlib.Core.Path.{_≡_};
-ghost use Rattle.cut_tree.specs.Rule.{moved, stepped, unbuilt};
+ghost use Prim.Native.Nat.{_<_};
+ghost use Rattle.min_cut.specs.Word.{holds};
+ghost use Rattle.network.specs.Basics.{at};
+ghost use Rattle.network.specs.Limits.{maxNodes};
+ghost use Rattle.cut_tree.specs.Rule.{moved, placed, recorded, stepped, unbuilt};
 ghost use Rattle.cut_tree.specs.RebuildParts.{movedOne, StepReady};
 
 // At first all parents are 0.
@@ -49,54 +53,56 @@ fn move_nodes(parent: [u8; MAX_NODES], x: u64, s: u8, t: u8) -> [u8; MAX_NODES]
     p
 }
 
-// Step s, of pivot t, by the cut x: s is placed beside t; or, where x holds the parent of t, between that parent and t.
-pub fn step(b: Built, s: usize, t: usize, x: StepCut) -> Built
-    requires { ⌜ StepReady b s t x ⌝ }
-    ensures { λ r. ⌜ r ≡ stepped b s t x ⌝ }
+// Node s, of pivot t and the cut x, is placed: beside t; or, where x holds the parent of t, between that parent and t.
+fn place(tree: Tree, s: usize, t: usize, x: StepCut) -> Tree
+    requires { ⌜ (s < maxNodes) × (t < maxNodes) × (at (tree .parent) t < maxNodes) ⌝ }
+    ensures { λ r. ⌜ r ≡ placed (holds (x .side) (at (tree .parent) t)) tree s t (x .side) (x .value) ⌝ }
 {
-    let tree = b.tree;
-    let steps = b.steps;
     let before = tree.parent;
     let q = before[t];
     let mut parent = move_nodes(before, x.side, s as u8, t as u8);
     let mut weight = tree.weight;
-    let mut pivot = steps.pivot;
-    let mut side = steps.side;
-    let mut value = steps.value;
-    pivot[s] = t as u8;
-    side[s] = x.side;
-    value[s] = x.value;
-    let recorded = Steps {
-        pivot: pivot,
-        side: side,
-        value: value,
-    };
-    let count = b.count + x.anew;
     if node_set::contains(x.side, q as usize) {
         parent[s] = q;
         parent[t] = s as u8;
         let old = weight[t];
         weight[s] = old;
         weight[t] = x.value;
-        let placed = Tree {
+        return Tree {
             parent: parent,
             weight: weight,
-        };
-        return Built {
-            tree: placed,
-            steps: recorded,
-            count: count,
         };
     }
     parent[s] = t as u8;
     weight[s] = x.value;
-    let placed = Tree {
+    Tree {
         parent: parent,
         weight: weight,
-    };
+    }
+}
+
+// Pivot, side and value are recorded as step s.
+fn record_step(steps: Steps, s: usize, t: usize, x: StepCut) -> Steps
+    requires { ⌜ (s < maxNodes) × (t < maxNodes) ⌝ }
+    ensures { λ r. ⌜ r ≡ recorded steps s t (x .side) (x .value) ⌝ }
+{
+    let mut next = steps;
+    next.pivot[s] = t as u8;
+    next.side[s] = x.side;
+    next.value[s] = x.value;
+    next
+}
+
+// Step s, of pivot t, by the cut x.
+pub fn step(b: Built, s: usize, t: usize, x: StepCut) -> Built
+    requires { ⌜ StepReady b s t x ⌝ }
+    ensures { λ r. ⌜ r ≡ stepped b s t x ⌝ }
+{
+    let tree = place(b.tree, s, t, x);
+    let steps = record_step(b.steps, s, t, x);
     Built {
-        tree: placed,
-        steps: recorded,
-        count: count,
+        tree: tree,
+        steps: steps,
+        count: b.count + x.anew,
     }
 }

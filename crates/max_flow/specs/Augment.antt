@@ -34,13 +34,13 @@ pub record Augmented (net : Network) (s t : ℕ) (cut : Cut) (r : List (List ℕ
   pub least : cut ≡ leastCutOf net s t
   pub flowing : Flowing net s t (minCutValue net s t) r
 
-module _ (net : Network) (s t : ℕ) (a : Endpoints net s t) where
+module _ {net : Network} {s t : ℕ} (a : Endpoints net s t) where
   pub flowing-start : (r : List (List ℕ)) → r ≡ fullResidual net → Flowing net s t 0 r
   flowing-start r e = rw e (record { balanced = full-balanced net (a .fits); flow = full-flow net (a .fits) s t })
 
   -- by the side of s alone
-  pub flow-le : (v : ℕ) (r : List (List ℕ)) → Flowing net s t v r → v ≤ maxValue
-  flow-le v r f =
+  pub flow-le : {v : ℕ} {r : List (List ℕ)} → Flowing net s t v r → v ≤ maxValue
+  flow-le {v} {r} f =
       omega (
         arith,
         weak (graph net) s t v (ahead r) (back r) (f .flow) (λ i. eqb i s) (eq-eqb s s refl) (ne-eqb t s (λ e. a .apart (sym e))),
@@ -50,12 +50,12 @@ module _ (net : Network) (s t : ℕ) (a : Endpoints net s t) where
   pub ends-lt : (s < maxNodes) × (t < maxNodes)
   ends-lt = (omega (arith, a .source, nodes-le net (a .fits)), omega (arith, a .sink, nodes-le net (a .fits)))
 
-  module _ (v : ℕ) (r : List (List ℕ)) (f : Flowing net s t v r) (w : SearchTree) (o : Searched net r s t w) where
+  module _ {v : ℕ} {r : List (List ℕ)} {w : SearchTree} (f : Flowing net s t v r) (o : Searched net r s t w) where
     pub sending : Sending net s r w
     sending = record { fits = a .fits; balanced = f .balanced; tree = o .tree }
 
     -- t is reached
-    module _ (q : holds (w .reached) t ≡ true) (d : ℕ) (r' : List (List ℕ)) (p : Sent net s r w d r') where
+    module _ {d : ℕ} {r' : List (List ℕ)} (q : holds (w .reached) t ≡ true) (p : Sent net s r w d r') where
       pub flowing-more : Flowing net s t (v + d) r'
       flowing-more =
           record {
@@ -64,7 +64,7 @@ module _ (net : Network) (s t : ℕ) (a : Endpoints net s t) where
           }
 
       pub more-le : v + d ≤ maxValue
-      more-le = flow-le (v + d) r' flowing-more
+      more-le = flow-le flowing-more
 
       pub more-some : 0 < d
       more-some = omega (arith, p .amount, o .tree .flows (w .count - 1) (omega (arith, o .tree .some)))
@@ -77,7 +77,7 @@ module _ (net : Network) (s t : ℕ) (a : Endpoints net s t) where
       side-least : leastSide net s t ≡ w .reached
       side-least =
           reached-least (net .nodes) (graph net) s t v (ahead r) (back r) (w .reached) (ends-within net (a .fits)) (a .source) (a .sink) (a .apart) (f .flow)
-          (o .tree .under) inside q (o .miss q) (contained net r s w (o .tree))
+          (o .tree .under) inside q (o .miss q) (contained (o .tree))
 
       value-least : minCutValue net s t ≡ v
       value-least =

@@ -10,3 +10,5 @@ pub mod Push
 pub mod Augment
 pub mod Signed
 pub mod LinkFlows
+pub mod AnswerLaws
+pub mod Examples

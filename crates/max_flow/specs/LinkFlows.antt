@@ -54,7 +54,7 @@ module _ (capacity : List ℕ) (r : List (List ℕ)) (f : List ℤ) where
       go (yes e) ih = rw e (getD-set-same (linkFlowsUpTo capacity r f k) k _ (pos 0) (omega (arith, flows-long k)))
       go (no n) ih = getD-set-other (linkFlowsUpTo capacity r f k) k j _ (pos 0) n ∙ ih (omega arith)
 
-module _ (net : Network) (s t : ℕ) (a : Endpoints net s t) (r : List (List ℕ)) (b : Flowing net s t (minCutValue net s t) r) where
+module _ {net : Network} {s t : ℕ} {r : List (List ℕ)} (a : Endpoints net s t) (b : Flowing net s t (minCutValue net s t) r) where
   pub moderate : Moderate (net .capacity) r (net .links)
   moderate =
       record {

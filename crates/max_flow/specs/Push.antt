@@ -52,12 +52,12 @@ pub record OnPath (w : SearchTree) (d i : ℕ) (r' : List (List ℕ)) : Type 0 w
   pub row : (d ≤ cond (forward (at (w .arc) i)) (ahead r' (at (w .arc) i / 2)) (back r' (at (w .arc) i / 2)))
       × (ahead r' (at (w .arc) i / 2) + back r' (at (w .arc) i / 2) ≤ 2 * maxCapacity)
 
-module _ (net : Network) (s : ℕ) (r : List (List ℕ)) (w : SearchTree) (a : Sending net s r w) where
+module _ {net : Network} {s : ℕ} {r : List (List ℕ)} {w : SearchTree} (a : Sending net s r w) where
   f : TreeFrom net r s w
   f = a .tree
 
   pub last-lt : w .count - 1 < maxNodes
-  last-lt = place-lt net r s w f (a .fits) (w .count - 1) (omega (arith, f .some))
+  last-lt = place-lt f (a .fits) (w .count - 1) (omega (arith, f .some))
 
   pub half-start : Half net r w (most w) (w .count - 1) r
   half-start =
@@ -69,7 +69,7 @@ module _ (net : Network) (s : ℕ) (r : List (List ℕ)) (w : SearchTree) (a : S
         fits = λ j p q. f .entered j p (omega (arith, f .some)) .fits;
       }
 
-  module _ (d i : ℕ) (r' : List (List ℕ)) (o : Half net r w d i r') where
+  module _ {d i : ℕ} {r' : List (List ℕ)} (o : Half net r w d i r') where
     pub half-end : i ≤ 0 → d ≡ most w → Sent net s r w d r'
     half-end z e =
         let y : i ≡ 0 = omega arith in
@@ -92,32 +92,32 @@ module _ (net : Network) (s : ℕ) (r : List (List ℕ)) (w : SearchTree) (a : S
       pub on-path : OnPath w d i r'
       on-path =
           record {
-            place = place-lt net r s w f (a .fits) i (o .here);
+            place = place-lt f (a .fits) i (o .here);
             arc = omega (arith, entry .here, links-le net (a .fits));
             earlier = entry .earlier;
-            tail = node-lt net r s w f (a .fits) (at (w .from) i) from-lt;
-            tip = node-lt net r s w f (a .fits) i (o .here);
-            row = along-fits net (a .fits) r' (o .balanced) (at (w .arc) i) d (entry .here) dl;
+            tail = node-lt f (a .fits) (at (w .from) i) from-lt;
+            tip = node-lt f (a .fits) i (o .here);
+            row = along-fits (a .fits) (o .balanced) (at (w .arc) i) d (entry .here) dl;
           }
 
       pub half-next : Half net r w d (at (w .from) i) (sentAlong r' (at (w .arc) i) d)
       half-next =
           record {
             pushed = λ X. omega (arith, o .pushed X, one X);
-            balanced = along-balanced net (a .fits) r' (o .balanced) (at (w .arc) i) d (entry .here) dl;
+            balanced = along-balanced (a .fits) (o .balanced) (at (w .arc) i) d (entry .here) dl;
             here = from-lt;
             enough = omega (arith, entry .falls, o .enough);
             fits = λ j y z.
                 omega (
                   arith,
                   o .fits j y (omega (arith, entry .earlier)),
-                  along-other net (a .fits) r' (o .balanced) (at (w .arc) i) d (entry .here) dl (at (w .arc) j) (apart j y (omega (arith, entry .earlier))),
+                  along-other (a .fits) (o .balanced) (at (w .arc) i) d (entry .here) dl (at (w .arc) j) (apart j y (omega (arith, entry .earlier))),
                 );
           }
         where
           one : Pushed (graph net) (at (w .node) (at (w .from) i)) (at (w .node) i) d (ahead r') (back r')
               (ahead (sentAlong r' (at (w .arc) i) d)) (back (sentAlong r' (at (w .arc) i) d))
-          one = rw (← entry .starts, ← entry .leads) (along-pushed net (a .fits) r' (o .balanced) (at (w .arc) i) d (entry .here) dl)
+          one = rw (← entry .starts, ← entry .leads) (along-pushed (a .fits) (o .balanced) (at (w .arc) i) d (entry .here) dl)
 
           -- two places were entered by different arcs, since their nodes differ
           apart : (j : ℕ) → 0 < j → j < i → at (w .arc) j ≢ at (w .arc) i

@@ -62,7 +62,7 @@ module _ (net : Network) where
       same = sum-ext (net .links) _ _ (λ k l. rw (full-at (net .links) k l (links-le net h)))
 
 -- ---- d more is sent along arc e
-module _ (net : Network) (h : networkFits net ≡ true) (r : List (List ℕ)) (b : Balanced net r) (e d : ℕ) (el : e < 2 * net .links) (dl : d ≤ roomOn r e) where
+module _ {net : Network} {r : List (List ℕ)} (h : networkFits net ≡ true) (b : Balanced net r) (e d : ℕ) (el : e < 2 * net .links) (dl : d ≤ roomOn r e) where
   abbrev k : ℕ
   k = e / 2
 

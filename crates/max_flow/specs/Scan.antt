@@ -1,4 +1,4 @@
--- What the loops of the search keep: the one over the nodes reached, and the one over a node's own arcs.
+-- What the loops of the search keep: the one over the places of the tree, and the one over a node's own arcs.
 use mathlib.Core.Path.{_≡_, refl, sym, ap, subst, _∙_}
 use mathlib.Core.Bool.{Bool, true, false, cond, true≢false}
 use mathlib.Core.List.{List, []}
@@ -49,20 +49,29 @@ pub record Inner (net : Network) (r : List (List ℕ)) (s t : ℕ) (w : SearchTr
   pub chain : Leaves net u (2 * net .links) e
   pub done : Done net r w u e
 
--- what the code asks at a place of the tree
+-- what the code relies on at a place of the tree
 pub record Placed (first : List ℕ) (w : SearchTree) (i p : ℕ) : Type 0 where
   pub done : i < maxNodes
   pub place : p < maxNodes
   pub node : at (w .node) p < maxNodes
   pub chain : at first (at (w .node) p) ≤ maxArcs
 
--- what the code asks at arc e - 1 of the node at place p
-pub record Looking (next to : List ℕ) (w : SearchTree) (p e : ℕ) : Type 0 where
+-- what the code relies on at arc e - 1 of the node at place p
+pub record Looking (next to : List ℕ) (w : SearchTree) (i p e : ℕ) : Type 0 where
   pub arc : e - 1 < maxArcs
   pub node : at to (e - 1) < maxNodes
+  pub done : i < maxNodes
   pub place : p < maxNodes
   pub free : holds (w .reached) (at to (e - 1)) ≡ false → w .count < maxNodes
   pub falls : at next (e - 1) < e
+
+-- arc e - 1 leads to a new node, and w' is the tree with it
+pub record Fresh (to : List ℕ) (r : List (List ℕ)) (w : SearchTree) (p e : ℕ) (w' : SearchTree) : Type 0 where
+  pub amount : ℕ
+  pub most : amount ≡ lesserOf (getD (getD r ((e - 1) / 2) []) ((e - 1) % 2) 0) (at (w .bottleneck) p)
+  pub some : 0 < getD (getD r ((e - 1) / 2) []) ((e - 1) % 2) 0
+  pub new : holds (w .reached) (at to (e - 1)) ≡ false
+  pub tree : w' ≡ grown w p (e - 1) (at to (e - 1)) amount
 
 -- what the loop over the places counts down
 pub past-falls : (i p : ℕ) → i ≤ p → i < maxNodes → 2 * (maxNodes - pastOf i p) + pastOf i p < 2 * (maxNodes - i) + p
@@ -72,7 +81,7 @@ past-falls i p a l = go (eqb p i) refl
     go true e = omega (arith, eqb-true p i e)
     go false e = let n = eqb-false p i e in omega (arith, n)
 
-module _ (net : Network) (first next to : List ℕ) (r : List (List ℕ)) (s t : ℕ) (a : Ready net first next to s t) where
+module _ {net : Network} {first next to : List ℕ} {s t : ℕ} (a : Ready net first next to s t) where
   h : networkFits net ≡ true
   h = a .ends .fits
 
@@ -80,8 +89,8 @@ module _ (net : Network) (first next to : List ℕ) (r : List (List ℕ)) (s t :
   c = a .chains
 
   -- ---- the loop over the places
-  pub going-start : (w : SearchTree) → w ≡ seedOf s → Going net r s t w 0 0
-  going-start w e =
+  pub going-start : (r : List (List ℕ)) (w : SearchTree) → w ≡ seedOf s → Going net r s t w 0 0
+  going-start r w e =
       record {
         outer =
             rw e
@@ -94,42 +103,42 @@ module _ (net : Network) (first next to : List ℕ) (r : List (List ℕ)) (s t :
         within = λ l. l;
       }
 
-  pub going-end : (w : SearchTree) (i p : ℕ) → Going net r s t w i p → w .count ≤ i → Searched net r s t w
-  going-end w i p o l =
-      record {
-        tree = o .outer .tree;
-        hit = λ q. absurd (true≢false (sym q ∙ o .outer .missed));
-        miss = λ q e el z y.
-            let k = o .outer .tree .listed (tail (graph net) e) y in
-            o .outer .past (k .0) (omega (arith, k .1)) e el (omega arith) (sym (k .2)) z;
-      }
+  module _ {r : List (List ℕ)} {w : SearchTree} {i p : ℕ} (o : Going net r s t w i p) where
+    pub going-end : w .count ≤ i → Searched net r s t w
+    going-end l =
+        record {
+          tree = o .outer .tree;
+          hit = λ q. absurd (true≢false (sym q ∙ o .outer .missed));
+          miss = λ q e el z y.
+              let k = o .outer .tree .listed (tail (graph net) e) y in
+              o .outer .past (k .0) (omega (arith, k .1)) e el (omega arith) (sym (k .2)) z;
+        }
 
-  pub placed : (w : SearchTree) (i p : ℕ) → Going net r s t w i p → i < w .count → Placed first w i p
-  placed w i p o l =
-      let f = o .outer .tree in
-      let q = o .within l in
-      record {
-        done = place-lt net r s w f h i l;
-        place = place-lt net r s w f h p q;
-        node = node-lt net r s w f h p q;
-        chain = omega (arith, c .first-leaves (at (w .node) p) (inside net r s w f (at (w .node) p) (f .held p q)) .under, links-le net h);
-      }
+    pub placed : i < w .count → Placed first w i p
+    placed l =
+        let f = o .outer .tree in
+        let q = o .within l in
+        record {
+          done = place-lt f h i l;
+          place = place-lt f h p q;
+          node = node-lt f h p q;
+          chain = omega (arith, c .first-leaves (at (w .node) p) (inside f (at (w .node) p) (f .held p q)) .under, links-le net h);
+        }
 
-  pub inner-start : (w : SearchTree) (i p u e : ℕ) → Going net r s t w i p → i < w .count → u ≡ at (w .node) p → e ≡ at first u → Inner net r s t w i p u e
-  inner-start w i p u e o l eu ee =
-      let lu : u < net .nodes = inside net r s w (o .outer .tree) u (rw eu (o .outer .tree .held p (o .within l))) in
-      record {
-        outer = o .outer;
-        ahead = o .ahead;
-        here = o .within l;
-        node = sym eu;
-        chain = rw ee (c .first-leaves u lu);
-        done = λ j jl q d z. absurd (omega (arith, ee, rw d at (c .first-last j jl)));
-      }
+    pub inner-start : i < w .count → Inner net r s t w i p (at (w .node) p) (at first (at (w .node) p))
+    inner-start l =
+        record {
+          outer = o .outer;
+          ahead = o .ahead;
+          here = o .within l;
+          node = refl;
+          chain = c .first-leaves (at (w .node) p) (inside (o .outer .tree) (at (w .node) p) (o .outer .tree .held p (o .within l)));
+          done = λ j jl q d z. absurd (omega (arith, rw d at (c .first-last j jl)));
+        }
 
   -- p is done
-  pub going-next : (w : SearchTree) (i p u : ℕ) → Inner net r s t w i p u 0 → Going net r s t w (pastOf i p) (pastOf i p)
-  going-next w i p u o = go (eqb p i) refl
+  pub going-next : {r : List (List ℕ)} {w : SearchTree} {i p u : ℕ} → Inner net r s t w i p u 0 → Going net r s t w (pastOf i p) (pastOf i p)
+  going-next {r} {w} {i} {p} o = go (eqb p i) refl
     where
       past' : p ≡ i → (k : ℕ) → k < i + 1 → Dec (k ≡ i) → Done net r w (at (w .node) k) 0
       past' q k l (yes e) = rw (e, ← q, o .node) (o .done)
@@ -145,7 +154,7 @@ module _ (net : Network) (first next to : List ℕ) (r : List (List ℕ)) (s t :
       go false e = record { outer = o .outer; ahead = omega arith; within = λ l. l }
 
   -- ---- the loop over a node's arcs: arc e - 1 is looked at
-  module _ (w : SearchTree) (i p u e : ℕ) (o : Inner net r s t w i p u e) (some : 0 < e) where
+  module _ {r : List (List ℕ)} {w : SearchTree} {i p u e : ℕ} (o : Inner net r s t w i p u e) (some : 0 < e) where
     el : e - 1 < 2 * net .links
     el = omega (arith, o .chain .under)
 
@@ -158,78 +167,72 @@ module _ (net : Network) (first next to : List ℕ) (r : List (List ℕ)) (s t :
     abbrev x : ℕ
     x = at to (e - 1)
 
-    -- what the code reads as its room
-    abbrev room : ℕ
-    room = getD (getD r ((e - 1) / 2) []) ((e - 1) % 2) 0
-
     x-lt : at to (e - 1) < net .nodes
     x-lt = rw leads-to (tip-lt net h (e - 1) el)
 
-    pub looking : Looking next to w p e
+    pub looking : Looking next to w i p e
     looking =
+        let q = place-lt (o .outer .tree) h p (o .here) in
         record {
           arc = omega (arith, el, links-le net h);
           node = omega (arith, x-lt, nodes-le net h);
-          place = place-lt net r s w (o .outer .tree) h p (o .here);
-          free = λ new. omega (arith, free net r s w (o .outer .tree) (at to (e - 1)) x-lt new, nodes-le net h);
+          done = omega (arith, q, o .ahead);
+          place = q;
+          free = λ new. omega (arith, free (o .outer .tree) (at to (e - 1)) x-lt new, nodes-le net h);
           falls = omega (arith, c .next-leaves (e - 1) el .under);
         }
 
-    module _ (w' : SearchTree) (seen : Visited net r s w (e - 1) w') where
-      inner-next : holds (w' .reached) t ≡ false → Inner net r s t w' i p u (at next (e - 1))
-      inner-next q =
-          record {
-            outer =
-                record {
-                  tree = seen .tree;
-                  missed = q;
-                  past = λ k l j jl z y q1.
-                      seen .keeps (tip (graph net) j)
-                      (o .outer .past k l j jl z (y ∙ seen .keeps-node k (omega (arith, o .here, o .ahead))) q1);
-                };
-            ahead = o .ahead;
-            here = omega (arith, seen .more, o .here);
-            node = seen .keeps-node p (o .here) ∙ o .node;
-            chain = record { under = omega (arith, n .under, el); from = λ q1. n .from q1 ∙ o .chain .from some };
-            done = λ j jl z y q1. go j jl z y q1 (decLt j e) (ℕ-discrete j (e - 1));
-          }
-        where
-          n : Leaves net (tail (graph net) (e - 1)) (e - 1) (at next (e - 1))
-          n = c .next-leaves (e - 1) el
+    inner-next : {w' : SearchTree} → Visited net r s w (e - 1) w' → holds (w' .reached) t ≡ false → Inner net r s t w' i p u (at next (e - 1))
+    inner-next {w'} seen q =
+        record {
+          outer =
+              record {
+                tree = seen .tree;
+                missed = q;
+                past = λ k l j jl z y q1.
+                    seen .keeps (tip (graph net) j)
+                    (o .outer .past k l j jl z (y ∙ seen .keeps-node k (omega (arith, o .here, o .ahead))) q1);
+              };
+          ahead = o .ahead;
+          here = omega (arith, seen .more, o .here);
+          node = seen .keeps-node p (o .here) ∙ o .node;
+          chain = record { under = omega (arith, n .under, el); from = λ q1. n .from q1 ∙ o .chain .from some };
+          done = λ j jl z y q1. go j jl z y q1 (decLt j e) (ℕ-discrete j (e - 1));
+        }
+      where
+        n : Leaves net (tail (graph net) (e - 1)) (e - 1) (at next (e - 1))
+        n = c .next-leaves (e - 1) el
 
-          go : (j : ℕ) → j < 2 * net .links → at next (e - 1) ≤ j → tail (graph net) j ≡ u → 0 < roomOn r j → Dec (j < e) → Dec (j ≡ e - 1) → holds (w' .reached) (tip (graph net) j) ≡ true
-          go j jl z y q1 (no b) a = seen .keeps (tip (graph net) j) (o .done j jl (omega arith) y q1)
-          go j jl z y q1 (yes b) (yes a) = ap (λ j. holds (w' .reached) (tip (graph net) j)) a ∙ seen .takes (subst (λ j. 0 < roomOn r j) a q1)
-          go j jl z y q1 (yes b) (no a) = absurd (omega (arith, c .next-last (e - 1) j el (omega arith) (y ∙ sym (o .chain .from some))))
-
-    old : (0 < roomOn r (e - 1) → holds (w .reached) (tip (graph net) (e - 1)) ≡ true) → (w' : SearchTree) → w' ≡ w → Inner net r s t w' i p u (at next (e - 1))
-    old v w' q = rw q (inner-next w (visited-old net r s w (o .outer .tree) (e - 1) v) (o .outer .missed))
+        go : (j : ℕ) → j < 2 * net .links → at next (e - 1) ≤ j → tail (graph net) j ≡ u → 0 < roomOn r j → Dec (j < e) → Dec (j ≡ e - 1) → holds (w' .reached) (tip (graph net) j) ≡ true
+        go j jl z y q1 (no b) d = seen .keeps (tip (graph net) j) (o .done j jl (omega arith) y q1)
+        go j jl z y q1 (yes b) (yes d) = ap (λ j. holds (w' .reached) (tip (graph net) j)) d ∙ seen .takes (subst (λ j. 0 < roomOn r j) d q1)
+        go j jl z y q1 (yes b) (no d) = absurd (omega (arith, c .next-last (e - 1) j el (omega arith) (y ∙ sym (o .chain .from some))))
 
     -- it has no room
-    pub next-full : room ≤ 0 → (w' : SearchTree) → w' ≡ w → Inner net r s t w' i p u (at next (e - 1))
-    next-full q = old (λ z. absurd (omega (arith, room-read r (e - 1))))
+    pub next-full : getD (getD r ((e - 1) / 2) []) ((e - 1) % 2) 0 ≤ 0 → Inner net r s t w i p u (at next (e - 1))
+    next-full q = inner-next (visited-old (o .outer .tree) (e - 1) (λ z. absurd (omega (arith, room-read r (e - 1))))) (o .outer .missed)
 
     -- it leads to a node that is reached
-    pub next-held : holds (w .reached) x ≡ true → (w' : SearchTree) → w' ≡ w → Inner net r s t w' i p u (at next (e - 1))
-    next-held q = old (λ z. ap (holds (w .reached)) (sym leads-to) ∙ q)
+    pub next-held : holds (w .reached) x ≡ true → Inner net r s t w i p u (at next (e - 1))
+    next-held q = inner-next (visited-old (o .outer .tree) (e - 1) (λ z. ap (holds (w .reached)) (sym leads-to) ∙ q)) (o .outer .missed)
 
     -- it leads to a new one
-    module _ (d : ℕ) (ed : d ≡ lesserOf room (at (w .bottleneck) p)) (some-room : 0 < room) (new : holds (w .reached) x ≡ false) (w' : SearchTree)
-        (q : w' ≡ grown w p (e - 1) x d) where
+    module _ {w' : SearchTree} (f : Fresh to r w p e w') where
       seen : Visited net r s w (e - 1) w'
       seen =
-          rw q
-          (visited-new net r s w (o .outer .tree) (e - 1) h p (o .here) el et x d leads-to (rw room-read at ed) (rw room-read at some-room) new)
+          rw (f .tree)
+          (visited-new (o .outer .tree) (e - 1) h p (o .here) el et x (f .amount) leads-to (rw room-read at (f .most)) (rw room-read at (f .some)) (f .new))
+
+      holds-new : (y : ℕ) → holds (w' .reached) y ≡ holds (added (w .reached) x) y
+      holds-new y = ap (λ (v : SearchTree). holds (v .reached) y) (f .tree)
 
       pub next-new : (x ≡ t → ⊥) → Inner net r s t w' i p u (at next (e - 1))
-      next-new z =
-          inner-next w' seen
-          (ap (λ (v : SearchTree). holds (v .reached) t) q ∙ added-other (w .reached) x t (λ y. z (sym y)) ∙ o .outer .missed)
+      next-new z = inner-next seen (holds-new t ∙ added-other (w .reached) x t (λ y. z (sym y)) ∙ o .outer .missed)
 
       -- to t
       pub hit-new : x ≡ t → Searched net r s t w'
       hit-new z =
-          let y : holds (w' .reached) t ≡ true = ap (λ (v : SearchTree). holds (v .reached) t) q ∙ ap (holds (added (w .reached) x)) (sym z) ∙ added-same (w .reached) x in
+          let y : holds (w' .reached) t ≡ true = holds-new t ∙ ap (holds (added (w .reached) x)) (sym z) ∙ added-same (w .reached) x in
           record {
             tree = seen .tree;
             hit = λ g. seen .last t g (o .outer .missed);
@@ -242,5 +245,5 @@ module _ (net : Network) (first next to : List ℕ) (r : List (List ℕ)) (s t :
           record {
             outer = next-new z .outer;
             ahead = omega (arith, o .ahead, o .here);
-            within = λ l. let g : w' .count ≡ w .count + 1 = ap (λ (v : SearchTree). v .count) q in omega arith;
+            within = λ l. let g : w' .count ≡ w .count + 1 = ap (λ (v : SearchTree). v .count) (f .tree) in omega arith;
           }

@@ -32,7 +32,7 @@ lesser-fits a b p q = go (leb a b) refl
     go true e = (p, omega arith, leb-true a b e)
     go false e = (q, omega (arith, leb-false a b e), omega arith)
 
-module _ (net : Network) (r : List (List ℕ)) (s : ℕ) (w : SearchTree) (f : TreeFrom net r s w) where
+module _ {net : Network} {r : List (List ℕ)} {s : ℕ} {w : SearchTree} (f : TreeFrom net r s w) where
   few : w .count ≤ net .nodes
   few = omega (arith, size-le (net .nodes) (w .reached), f .many)
 
@@ -97,14 +97,14 @@ module _ (net : Network) (r : List (List ℕ)) (s : ℕ) (l : s < net .nodes) wh
       }
 
 -- ---- one node more: x, by arc e from place i, to which d can be sent
-module _ (net : Network) (r : List (List ℕ)) (s : ℕ) (w : SearchTree) (h : networkFits net ≡ true) (f : TreeFrom net r s w) (i e x d : ℕ)
+module _ {net : Network} {r : List (List ℕ)} {s : ℕ} {w : SearchTree} (h : networkFits net ≡ true) (f : TreeFrom net r s w) (i e x d : ℕ)
     (il : i < w .count) (el : e < 2 * net .links) (et : tail (graph net) e ≡ at (w .node) i) (ex : tip (graph net) e ≡ x) (xl : x < net .nodes)
     (new : holds (w .reached) x ≡ false) (some-d : 0 < d) (fits-d : d ≤ roomOn r e) (falls-d : d ≤ at (w .bottleneck) i) where
   abbrev w' : SearchTree
   w' = grown w i e x d
 
   room-left : w .count < maxNodes
-  room-left = omega (arith, free net r s w f x xl new, nodes-le net h)
+  room-left = omega (arith, free f x xl new, nodes-le net h)
 
   -- what stands at the new place, and what stands at another
   node-new : at (w' .node) (w .count) ≡ x
@@ -221,7 +221,7 @@ tip-lt net h e l = go (forward e)
     go true = ends-within net h (e / 2) (omega arith) .1
     go false = ends-within net h (e / 2) (omega arith) .0
 
-module _ (net : Network) (r : List (List ℕ)) (s : ℕ) (w : SearchTree) (f : TreeFrom net r s w) (e : ℕ) where
+module _ {net : Network} {r : List (List ℕ)} {s : ℕ} {w : SearchTree} (f : TreeFrom net r s w) (e : ℕ) where
   -- it leads to no new node
   pub visited-old : (0 < roomOn r e → holds (w .reached) (tip (graph net) e) ≡ true) → Visited net r s w e w
   visited-old q =
@@ -251,8 +251,8 @@ module _ (net : Network) (r : List (List ℕ)) (s : ℕ) (w : SearchTree) (f : T
       given =
           let q = lesser-fits (roomOn r e) (at (w .bottleneck) i) p (f .flows i il) in
           let xl : x < net .nodes = omega (arith, ex, tip-lt net h e el) in (
-            grown-tree net r s w h f i e x d il el et (sym ex) xl new (omega (arith, q .0, ed)) (omega (arith, q .1, ed)) (omega (arith, q .2, ed)),
-            last-new net r s w h f i e x d il el et (sym ex) xl new (omega (arith, q .0, ed)) (omega (arith, q .1, ed)) (omega (arith, q .2, ed)),
+            grown-tree h f i e x d il el et (sym ex) xl new (omega (arith, q .0, ed)) (omega (arith, q .1, ed)) (omega (arith, q .2, ed)),
+            last-new h f i e x d il el et (sym ex) xl new (omega (arith, q .0, ed)) (omega (arith, q .1, ed)) (omega (arith, q .2, ed)),
           )
 
       go : (y : ℕ) → holds (added (w .reached) x) y ≡ true → holds (w .reached) y ≡ false → Dec (y ≡ x) → at (set (w .node) (w .count) x) (w .count + 1 - 1) ≡ y

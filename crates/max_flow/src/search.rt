@@ -97,6 +97,7 @@ pub fn search(
         let mut e = first[u] as usize;
         while e > 0 {
             let j = e - 1;
+            e = next[j] as usize;
             let x = to[j] as usize;
             if !contains(tree.reached, x) {
                 let d = residual[j / 2][j % 2];
@@ -118,7 +119,6 @@ pub fn search(
                     }
                 }
             }
-            e = next[j] as usize;
         }
         i = past(i, p);
         p = i;

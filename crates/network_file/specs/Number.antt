@@ -1,9 +1,9 @@
 -- "A number is written in groups of seven bits, lowest group first, one byte a group, the top bit set in all but the last byte, in the
 -- fewest groups": numbers of the file, with the checks 1 to 3.
-use Prim.Native.Nat.{ℕ, zero, suc, _+_, _-_, _*_, _/_, _%_}
+use Prim.Native.Nat.{ℕ, zero, suc, _+_, _-_, _*_, _/_, _%_, _<_}
 use mathlib.Core.List.{List, [], _∷_}
 use lib.Dec.{ltb, eqb}
-use Rattle.network.specs.Basics.{pick}
+use Rattle.network.specs.Basics.{pick, at}
 use Rattle.network.specs.Limits.{maxGroups}
 use Rattle.network_file.specs.declared.Number.{Number}
 use Rattle.network_file.specs.declared.Number.the-variants.{Value, Refused}
@@ -42,3 +42,7 @@ groupBytes (suc left) v = let rest = groupBytes left (v / 128) in pick (ltb v 12
 
 unfoldable pub numberBytes : ℕ → List ℕ
 numberBytes v = groupBytes maxGroups v
+
+-- what a slice of bytes holds
+abbrev pub Bytes : List ℕ → Type 0
+Bytes s = (i : ℕ) → at s i < 256

@@ -10,26 +10,12 @@ use Rattle.network.specs.Limits.{maxNodes, maxLinks, maxCapacity}
 use Rattle.network.specs.Network.{noNetwork}
 use Rattle.network.specs.declared.Network.{Network}
 use Rattle.network_file.specs.Number.{readNumber, numberOf, valueIn, sizeIn}
+use Rattle.network_file.specs.declared.Taken.{Taken}
+use Rattle.network_file.specs.declared.Link.{Link}
+use Rattle.network_file.specs.declared.Progress.{Progress}
 use Rattle.network_file.specs.declared.Reading.{Reading}
 
--- how far a file has been read: refused with the fault's place; or, number 0, the place where reading goes on, and the network so far
-pub record Progress : Type 0 where
-  pub number : ℕ
-  pub place : ℕ
-  pub network : Network
-
-abbrev pub stopped : ℕ → ℕ → Progress
-stopped e place = record { number = e; place = place; network = noNetwork }
-
-abbrev pub going : ℕ → Network → Progress
-going place net = record { number = 0; place = place; network = net }
-
--- read the number in what is left of the file, check it by its row, and go on with its value and the next place
-abbrev pub taking : List ℕ → ℕ → (ℕ → ℕ) → (ℕ → ℕ → Progress) → Progress
-taking s place row next =
-    let r = readNumber (drop place s) in
-    accepted (check (ltb 0 (numberOf r)) (numberOf r) (row (valueIn r))) (next (valueIn r) (place + sizeIn r)) (λ e. stopped e place)
-
+-- ---- a number
 -- the rows of n and m
 abbrev pub nodesRow : ℕ → ℕ
 nodesRow n = chain (row (eqb n 0 || ltb maxNodes n) 4 ∷ [])
@@ -47,6 +33,45 @@ otherEndRow n a b = chain (row (not (ltb b n)) 6 ∷ row (eqb b a) 7 ∷ [])
 abbrev pub capacityRow : ℕ → ℕ
 capacityRow c = chain (row (ltb maxCapacity c) 8 ∷ [])
 
+-- no row of its own
+abbrev pub noRow : ℕ → ℕ
+noRow v = 0
+
+abbrev pub noNumber : ℕ → ℕ → Taken
+noNumber e place = record { number = e; value = 0; next = place }
+
+abbrev pub aNumber : ℕ → ℕ → Taken
+aNumber v next = record { number = 0; value = v; next = next }
+
+-- the number in what is left of the file: 1 to 3, then its row; its value, and the place behind it
+unfoldable pub taken : List ℕ → ℕ → (ℕ → ℕ) → Taken
+taken s place row =
+    let r = readNumber (drop place s) in
+    accepted (check (ltb 0 (numberOf r)) (numberOf r) (row (valueIn r))) (aNumber (valueIn r) (place + sizeIn r)) (λ e. noNumber e place)
+
+-- a number, and on with its value and the next place; or a stop with its refusal number and its place
+abbrev pub taking : {A : Type 0} → List ℕ → ℕ → (ℕ → ℕ) → (ℕ → ℕ → A) → (ℕ → ℕ → A) → A
+taking s place row stop next = let t = taken s place row in accepted (t .number) (next (t .value) (t .next)) (λ e. stop e place)
+
+-- ---- a link
+abbrev pub noLink : ℕ → ℕ → Link
+noLink e place = record { number = e; place = place; a = 0; b = 0; capacity = 0 }
+
+-- the link at a place of the file of a network of n nodes
+unfoldable pub linkAt : List ℕ → ℕ → ℕ → Link
+linkAt s place n =
+    taking s place (endRow n) noLink λ a place₁.
+    taking s place₁ (otherEndRow n a) noLink λ b place₂.
+    taking s place₂ capacityRow noLink λ c place₃.
+    record { number = 0; place = place₃; a = a; b = b; capacity = c }
+
+-- ---- the file
+abbrev pub stopped : ℕ → ℕ → Progress
+stopped e place = record { number = e; place = place; network = noNetwork }
+
+abbrev pub going : ℕ → Network → Progress
+going place net = record { number = 0; place = place; network = net }
+
 -- a network of n nodes whose m links are not read yet
 abbrev pub unread : ℕ → ℕ → Network
 unread n m = record { nodes = n; links = m; a = replicate maxLinks 0; b = replicate maxLinks 0; capacity = replicate maxLinks 0 }
@@ -57,10 +82,8 @@ withLink net k a b c =
 
 unfoldable pub readLink : List ℕ → ℕ → ℕ → Network → Progress
 readLink s k place net =
-    taking s place (endRow (net .nodes)) λ a place₁.
-    taking s place₁ (otherEndRow (net .nodes) a) λ b place₂.
-    taking s place₂ capacityRow λ c place₃.
-    going place₃ (withLink net k a b c)
+    let l = linkAt s place (net .nodes) in
+    accepted (l .number) (going (l .place) (withLink net k (l .a) (l .b) (l .capacity))) (λ e. stopped e (l .place))
 
 -- what was read, if it was not refused, and on
 abbrev pub after : Progress → (ℕ → Network → Progress) → Progress
@@ -77,8 +100,8 @@ ended s place net = pick (ltb place (length s)) (stopped 9 place) (going place n
 
 unfoldable pub readAll : List ℕ → Progress
 readAll s =
-    taking s 0 nodesRow λ n place₁.
-    taking s place₁ linksRow λ m place₂.
+    taking s 0 nodesRow stopped λ n place₁.
+    taking s place₁ linksRow stopped λ m place₂.
     after (readLinks s m (going place₂ (unread n m))) (ended s)
 
 -- the reply: a place only beside a refusal

@@ -1,5 +1,5 @@
 -- The calls of document 01 as functions on records, their refusals in the order of its table.
-use Prim.Native.Nat.{ℕ, zero, suc, _+_, _-_}
+use Prim.Native.Nat.{ℕ, _-_}
 use mathlib.Core.Path.{_≡_}
 use mathlib.Core.Logic.{_≢_}
 use mathlib.Core.Bool.{not}
@@ -19,10 +19,8 @@ use Rattle.network_file.specs.declared.Reading.{Reading}
 use Rattle.cut_tree.specs.Rule.{rule}
 use Rattle.cut_tree.specs.Rebuild.{rebuilt}
 use Rattle.cut_tree.specs.Path.{pairRows, answer, weightOf}
-use Rattle.cut_tree.specs.declared.Tree.{Tree}
-use Rattle.cut_tree.specs.declared.Built.{Built}
 use Rattle.cut_tree.specs.declared.PairAnswer.{PairAnswer}
-use Rattle.cut_tree.specs.declared.PairAnswer.the-variants.{Refused, Found}
+use Rattle.cut_tree.specs.declared.PairAnswer.the-variants.{Refused}
 use Rattle.plan.specs.Plan.{maxDepth, sound, push, pop, noStack, noPlan}
 use Rattle.text.specs.Text.{textWidth, textOf}
 use Rattle.plan.specs.declared.Stack.{Stack}
@@ -91,15 +89,22 @@ unfoldable pub undoOf : Plan → Changed
 undoOf p = accepted (undoNumber p) (undone p) (unaltered p)
 
 -- ---- pair
+-- the checks of a call for two nodes, and those that come after them
+abbrev pub nodeRows : Plan → (s t : ℕ) → List Row → List Row
+nodeRows p s t later = unsound p ∷ pairRows (p .network .nodes) s t later
+
 unfoldable pub pairNumber : Plan → ℕ → ℕ → ℕ
-pairNumber p s t = chain (unsound p ∷ pairRows (p .network .nodes) s t [])
+pairNumber p s t = chain (nodeRows p s t [])
 
 unfoldable pub pairOf : Plan → ℕ → ℕ → PairAnswer
 pairOf p s t = accepted (pairNumber p s t) (answer (p .tree) (p .network .nodes) s t) Refused
 
 -- ---- flow
+abbrev pub flowRows : Plan → (s t size : ℕ) → List Row
+flowRows p s t size = nodeRows p s t (row (not (eqb size (p .network .links))) 16 ∷ [])
+
 unfoldable pub flowNumber : Plan → ℕ → ℕ → ℕ → ℕ
-flowNumber p s t size = chain (unsound p ∷ pairRows (p .network .nodes) s t (row (not (eqb size (p .network .links))) 16 ∷ []))
+flowNumber p s t size = chain (flowRows p s t size)
 
 -- what the flow call promises: its number, and the buffer before and after. Which lawful flow of that total it is, is left open.
 pub record Flowed (p : Plan) (s t : ℕ) (before : List ℤ) (number : ℕ) (behind : List ℤ) : Type 0 where
@@ -109,8 +114,11 @@ pub record Flowed (p : Plan) (s t : ℕ) (before : List ℤ) (number : ℕ) (beh
   pub untouched : number ≢ 0 → behind ≡ before
 
 -- ---- headroom
+abbrev pub headroomRows : Plan → (s t demand : ℕ) → List Row
+headroomRows p s t demand = nodeRows p s t (row (ltb maxDemand demand) 17 ∷ [])
+
 unfoldable pub headroomNumber : Plan → ℕ → ℕ → ℕ → ℕ
-headroomNumber p s t demand = chain (unsound p ∷ pairRows (p .network .nodes) s t (row (ltb maxDemand demand) 17 ∷ []))
+headroomNumber p s t demand = chain (headroomRows p s t demand)
 
 abbrev pub headroomBy : ℤ → Headroom
 headroomBy z = record { number = 0; value = z; text = textOf z }
@@ -122,8 +130,11 @@ headroomOf p s t demand =
     (λ e. record { number = e; value = pos 0; text = replicate textWidth 32 })
 
 -- ---- writing: the reply, and the buffer behind it
+abbrev pub writeRows : Plan → ℕ → List Row
+writeRows p size = unsound p ∷ row (ltb size (length (fileOf (p .network)))) 18 ∷ []
+
 unfoldable pub writeNumber : Plan → ℕ → ℕ
-writeNumber p size = chain (unsound p ∷ row (ltb size (length (fileOf (p .network)))) 18 ∷ [])
+writeNumber p size = chain (writeRows p size)
 
 unfoldable pub writeOf : Plan → ℕ → Written
 writeOf p size =

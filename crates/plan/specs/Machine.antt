@@ -1,6 +1,6 @@
 -- "The history as a plain machine". It sees of a call its arguments, and of a flow's buffer only the length: that is what a `Call` is.
-use Prim.Native.Nat.{ℕ, zero, suc, _+_, _-_}
-use mathlib.Core.Bool.{Bool, true, false, not, _&&_}
+use Prim.Native.Nat.{ℕ, _-_}
+use mathlib.Core.Bool.{not}
 use mathlib.Core.List.{List, [], _∷_, _++_}
 use lib.ListN.{length, take, set, replicate}
 use lib.Dec.{ltb, eqb}
@@ -38,6 +38,10 @@ refusal n m x undo = chain (row (eqb (length (x .stack)) 0) 13 ∷ [])
 refusal n m x (pair s t) = chain (pairRows n s t [])
 refusal n m x (flow s t size) = chain (pairRows n s t (row (not (eqb size m)) 16 ∷ []))
 
+-- the number that it gives a call: 0, accepted, or the refusal's
+abbrev pub numberAt : Network → State → Call → ℕ
+numberAt net x call = refusal (net .nodes) (net .links) x call
+
 abbrev pub popped : List ℕ → List Entry → State
 popped capacity [] = record { capacity = capacity; stack = [] }
 popped capacity (e ∷ es) = record { capacity = set capacity (e .link) (e .capacity); stack = es }
@@ -51,7 +55,7 @@ moves x (pair s t) = x
 moves x (flow s t size) = x
 
 unfoldable pub next : Network → State → Call → State
-next net x call = accepted (refusal (net .nodes) (net .links) x call) (moves x call) (λ e. x)
+next net x call = accepted (numberAt net x call) (moves x call) (λ e. x)
 
 -- after a list of calls, and the numbers that it gives
 unfoldable pub state : Network → State → List Call → State
@@ -60,7 +64,7 @@ state net x (c ∷ cs) = state net (next net x c) cs
 
 unfoldable pub numbers : Network → State → List Call → List ℕ
 numbers net x [] = []
-numbers net x (c ∷ cs) = refusal (net .nodes) (net .links) x c ∷ numbers net (next net x c) cs
+numbers net x (c ∷ cs) = numberAt net x c ∷ numbers net (next net x c) cs
 
 -- ---- the machine's state as the plan's arrays: unused places are 0
 abbrev pub padded : List ℕ → List ℕ

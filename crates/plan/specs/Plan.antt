@@ -2,7 +2,7 @@
 -- This tests shape only: that a tree is the network's cut tree is said of plans reached from an opening.
 use Prim.Native.Nat.{ℕ, zero, suc, _+_, _-_, _^_}
 use mathlib.Core.Bool.{Bool, not}
-use mathlib.Core.List.{List, [], _∷_}
+use mathlib.Core.List.{[], _∷_}
 use lib.ListN.{set, replicate}
 use lib.Dec.{ltb, leb, eqb}
 use Rattle.min_cut.specs.Word.{holds}

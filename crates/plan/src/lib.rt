@@ -1,12 +1,26 @@
+// The link plan of document 01: a network with its cut tree and the changes that can be undone. Each call's contract is the definition of
+// its name in specs/Calls.antt, and holds of every input.
+
+mod answers; // pairs and headrooms
+mod changes; // change and undo
+mod checks; // refusals of change and undo
+mod sound; // number 19: the shape of a plan
+mod files; // opening and writing
+mod flows; // the flow call
+mod entries; // changes that can be undone
+
 use cut_tree::Steps;
 use cut_tree::Tree;
 use network::Network;
 
+// entries of the stack
+pub const MAX_DEPTH: usize = 64;
+
 // Changes that can be undone: entry i is a link and the capacity that it had before; the top is entry depth - 1. Unused places are 0.
 pub struct Stack {
     pub depth: usize,
-    pub link: [u16; 64],
-    pub capacity: [u32; 64],
+    pub link: [u16; MAX_DEPTH],
+    pub capacity: [u32; MAX_DEPTH],
 }
 
 // A network with its cut tree, the steps that made the tree, and the changes that can be undone.

@@ -19,8 +19,8 @@ augment-requires c κs = search needs
 write-flow-requires : tie.Need-write-flow-requires
 write-flow-requires c κs =
     let st = c .before .before .before .before .before .before .before in
-    rw (st .pre .1) (moderate (st .args .net) (st .args .s) (st .args .t) (st .pre .0) _
-    (c .before .before .augment .ensures (st .args .net) (record { ends = st .pre .0; chains = c .before .before .before .before .before .before .incidence-of .ensures }) (c .before .before .before .before .full-residual .ensures) .flowing))
+    let end = c .before .before .augment .ensures (st .args .net) (record { ends = st .pre .0; chains = c .before .before .before .before .before .before .incidence-of .ensures }) (c .before .before .before .before .full-residual .ensures) .flowing in
+    rw (st .pre .1) (moderate (st .pre .0) end)
 
 same-length : tie.Need-same-length
 same-length c = search needs
@@ -28,8 +28,8 @@ same-length c = search needs
 returns : tie.Need-returns
 returns c =
     let st = c .before .before .before .before .before .before .before .before .before in
-    rw (c .before .write-flow .ensures) (largest (st .args .net) (st .args .s) (st .args .t) (st .pre .0) _
-    (c .before .before .before .before .augment .ensures (st .args .net) (record { ends = st .pre .0; chains = c .before .before .before .before .before .before .before .before .incidence-of .ensures }) (c .before .before .before .before .before .before .full-residual .ensures) .flowing) (st .args .out .now) (st .pre .1))
+    let end = c .before .before .before .before .augment .ensures (st .args .net) (record { ends = st .pre .0; chains = c .before .before .before .before .before .before .before .before .incidence-of .ensures }) (c .before .before .before .before .before .before .full-residual .ensures) .flowing in
+    rw (c .before .write-flow .ensures) (largest (st .pre .0) end (st .args .out .now) (st .pre .1))
 
 pub lawful-flow-spec : {M : Type 1} → statement M
 lawful-flow-spec =

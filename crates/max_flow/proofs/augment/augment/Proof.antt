@@ -25,43 +25,31 @@ hit : (c : tie.Else1 Inv-loop μ-loop) → holds (c .before .before .search .res
 hit c = sym (c .before .contains .ensures) ∙ not-false _ (c .if1 .left)
 
 loop-holds : tie.Need-loop-holds Inv-loop μ-loop
-loop-holds c =
-    let st = c .before .before .before in
-    λ net a q. flowing-start net (st .args .s) (st .args .t) (a .ends) (st .args .residual .now) q
+loop-holds c = λ net a q. flowing-start (a .ends) _ q
 
 sweep-requires : tie.Need-sweep-requires Inv-loop μ-loop
-sweep-requires c κs =
-    let st = c .before .before .before .before .before .before in
-    ends-lt (st .pre .0) (st .args .s) (st .args .t) (st .pre .1 .ends)
+sweep-requires c κs = ends-lt (c .before .before .before .before .before .before .pre .1 .ends)
 
 search-requires : tie.Need-search-requires Inv-loop μ-loop
-search-requires c κs =
-    let st = c .before .before .before .before .before .before .before .before .before .before .before .before in
-    (st .pre .0, st .pre .1)
+search-requires c κs = (c .before .before .before .before .before .before .before .before .before .before .before .before .pre .0, c .before .before .before .before .before .before .before .before .before .before .before .before .pre .1)
 
 contains-requires : tie.Need-contains-requires Inv-loop μ-loop
-contains-requires c κs =
-    let st = c .before .before .before .before .before .before .before .before .before .before .before .before .before in
-    ends-lt (st .pre .0) (st .args .s) (st .args .t) (st .pre .1 .ends) .1
+contains-requires c κs = ends-lt (c .before .before .before .before .before .before .before .before .before .before .before .before .before .pre .1 .ends) .1
 
 returns : tie.Need-returns Inv-loop μ-loop
 returns c =
-    let st = c .before .before .before .before .before .before .before .before .before .before .before .before .before .before .before in
     let l = c .before .before .before .before .before .before .before .before .before .before .before .loop in
     let w = c .before .before .search in
-    λ net a q.
-    at-end net (st .args .s) (st .args .t) (a .ends) (l .total) (l .residual) (l .inv net a q) (w .result) (w .ensures net a)
-    (sym (c .before .contains .ensures) ∙ not-true _ (c .if1 .taken))
+    λ net a q. at-end (a .ends) (l .inv net a q) (w .ensures net a) (sym (c .before .contains .ensures) ∙ not-true _ (c .if1 .taken))
 
 push-requires : tie.Need-push-requires Inv-loop μ-loop
 push-requires c κs =
     let st = c .before .before .before .before .before .before .before .before .before .before .before .before .before .before .before .before .before in
     let l = c .before .before .before .before .before .before .before .before .before .before .before .before .before .loop in
-    let w = c .before .before .before .before .search in (
-      st .pre .0,
-      st .args .s,
-      sending (st .pre .0) (st .args .s) (st .args .t) (st .pre .1 .ends) (l .total) (l .residual) (l .inv (st .pre .0) (st .pre .1) (st .pre .2)) (w .result) (w .ensures (st .pre .0) (st .pre .1)),
-    )
+    let w = c .before .before .before .before .search in
+    let net = st .pre .0 in
+    let a = st .pre .1 in
+    (net, st .args .s, sending (a .ends) (l .inv net a (st .pre .2)) (w .ensures net a))
 
 add-total : tie.Need-add-total Inv-loop μ-loop
 add-total c =
@@ -70,10 +58,7 @@ add-total c =
     let w = c .before .before .before .before .before .search in
     let net = st .pre .0 in
     let a = st .pre .1 in
-    let q = st .pre .2 in
-    let sum =
-    more-le net (st .args .s) (st .args .t) (a .ends) (l .total) (l .residual) (l .inv net a q) (w .result) (w .ensures net a) (hit (c .before .before .before)) (c .push .result) _
-    (c .push .ensures net (st .args .s) (sending net (st .args .s) (st .args .t) (a .ends) (l .total) (l .residual) (l .inv net a q) (w .result) (w .ensures net a))) in
+    let sum = more-le (a .ends) (l .inv net a (st .pre .2)) (w .ensures net a) (hit (c .before .before .before)) (c .push .ensures net (st .args .s) (sending (a .ends) (l .inv net a (st .pre .2)) (w .ensures net a))) in
     omega (arith, sum)
 
 loop-less : tie.Need-loop-less Inv-loop μ-loop
@@ -83,13 +68,8 @@ loop-less c =
     let w = c .before .before .before .before .before .search in
     let net = st .pre .0 in
     let a = st .pre .1 in
-    let q = st .pre .2 in
-    let sum =
-    more-le net (st .args .s) (st .args .t) (a .ends) (l .total) (l .residual) (l .inv net a q) (w .result) (w .ensures net a) (hit (c .before .before .before)) (c .push .result) _
-    (c .push .ensures net (st .args .s) (sending net (st .args .s) (st .args .t) (a .ends) (l .total) (l .residual) (l .inv net a q) (w .result) (w .ensures net a))) in
-    let some =
-    more-some net (st .args .s) (st .args .t) (a .ends) (l .total) (l .residual) (l .inv net a q) (w .result) (w .ensures net a) (hit (c .before .before .before)) (c .push .result) _
-    (c .push .ensures net (st .args .s) (sending net (st .args .s) (st .args .t) (a .ends) (l .total) (l .residual) (l .inv net a q) (w .result) (w .ensures net a))) in
+    let sum = more-le (a .ends) (l .inv net a (st .pre .2)) (w .ensures net a) (hit (c .before .before .before)) (c .push .ensures net (st .args .s) (sending (a .ends) (l .inv net a (st .pre .2)) (w .ensures net a))) in
+    let some = more-some (a .ends) (l .inv net a (st .pre .2)) (w .ensures net a) (hit (c .before .before .before)) (c .push .ensures net (st .args .s) (sending (a .ends) (l .inv net a (st .pre .2)) (w .ensures net a))) in
     omega (arith, sum, some)
 
 loop-again : tie.Need-loop-again Inv-loop μ-loop
@@ -98,8 +78,7 @@ loop-again c =
     let l = c .before .before .before .before .before .before .before .before .before .before .before .before .before .before .loop in
     let w = c .before .before .before .before .before .search in
     λ net a q.
-    flowing-more net (st .args .s) (st .args .t) (a .ends) (l .total) (l .residual) (l .inv net a q) (w .result) (w .ensures net a) (hit (c .before .before .before)) (c .push .result) _
-    (c .push .ensures net (st .args .s) (sending net (st .args .s) (st .args .t) (a .ends) (l .total) (l .residual) (l .inv net a q) (w .result) (w .ensures net a)))
+    flowing-more (a .ends) (l .inv net a q) (w .ensures net a) (hit (c .before .before .before)) (c .push .ensures net (st .args .s) (sending (a .ends) (l .inv net a q) (w .ensures net a)))
 
 pub augment-spec : {M : Type 1} → statement M
 augment-spec =

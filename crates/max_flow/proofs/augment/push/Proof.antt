@@ -4,7 +4,6 @@ use Prim.Native.Nat.{ℕ, _+_, _-_, _*_, _<_, _≤_}
 use native.Mathlib.Omega.{arith}
 use lib.Dec.{lit<}
 use borrow.Author.Needs.{needs, fits-under, scaled-fits}
-use Rattle.network.specs.Limits.{maxNodes}
 use Rattle.network.specs.declared.Network.{Network}
 use Rattle.max_flow.specs.Push.{most, Sending, Half, OnPath, last-lt, half-start, half-next, half-end, on-path}
 use Rattle.max_flow.proofs.augment.push.Statement.{statement}
@@ -17,27 +16,23 @@ Inv-loop into₀ residual₀ tree i₀ d into residual i =
 abbrev μ-loop : tie.MeasureT-loop
 μ-loop into₀ residual₀ tree i₀ d into residual i = i
 
-last : (c : tie.Start Inv-loop μ-loop) → c .args .t1 .count - 1 < maxNodes
-last c = last-lt (c .pre .0) (c .pre .1) (c .args .residual .now) (c .args .t1) (c .pre .2)
-
--- what the code may rely on at the place at hand
+-- what the code relies on at the place at hand
 on : (c : tie.In-loop Inv-loop μ-loop) → OnPath (c .before .before .before .args .t1) (most (c .before .before .before .args .t1)) (c .before .loop .i) (c .before .loop .residual)
 on c =
     let st = c .before .before .before in
-    let l = c .before .loop in
-    on-path (st .pre .0) (st .pre .1) (st .args .residual .now) (st .args .t1) (st .pre .2) _ (l .i) (l .residual) (l .inv (st .pre .0) (st .pre .1) (st .pre .2)) (c .loop-test .taken)
+    on-path (st .pre .2) (c .before .loop .inv (st .pre .0) (st .pre .1) (st .pre .2)) (c .loop-test .taken)
 
 sub-i : tie.Need-sub-i Inv-loop μ-loop
 sub-i c = omega (arith, c .pre .2 .tree .some)
 
 mul-d : tie.Need-mul-d Inv-loop μ-loop
-mul-d c = scaled-fits _ _ _ (last c) (lit< tt)
+mul-d c = scaled-fits _ _ _ (last-lt (c .pre .2)) (lit< tt)
 
 element-copy-out-d : tie.Need-element-copy-out-d Inv-loop μ-loop
-element-copy-out-d c = last c
+element-copy-out-d c = last-lt (c .pre .2)
 
 loop-holds : tie.Need-loop-holds Inv-loop μ-loop
-loop-holds c = λ net s a. half-start net s (c .before .args .residual .now) (c .before .args .t1) a
+loop-holds c = λ net s a. half-start a
 
 mul-e : tie.Need-mul-e Inv-loop μ-loop
 mul-e c = scaled-fits _ _ _ (on c .place) (lit< tt)
@@ -52,10 +47,10 @@ element-copy-out-f : tie.Need-element-copy-out-f Inv-loop μ-loop
 element-copy-out-f c = on (c .before) .place
 
 cast-f : tie.Need-cast-f Inv-loop μ-loop
-cast-f c = omega (arith, on (c .before .before) .earlier, on (c .before .before) .place)
+cast-f c = omega (arith, on (c .before .before))
 
 element-copy-out-u : tie.Need-element-copy-out-u Inv-loop μ-loop
-element-copy-out-u c = omega (arith, on (c .before .before) .earlier, on (c .before .before) .place)
+element-copy-out-u c = omega (arith, on (c .before .before))
 
 cast-u : tie.Need-cast-u Inv-loop μ-loop
 cast-u c = fits-under _ _ _ (on (c .before .before .before) .tail) tt
@@ -107,17 +102,11 @@ loop-less c = on (c .before .before .before .before .before .before .before .bef
 
 loop-again : tie.Need-loop-again Inv-loop μ-loop
 loop-again c =
-    let st = c .before .before .before .before .before .before .before .before .before .before .before .before in
     let l = c .before .before .before .before .before .before .before .before .before .before .loop in
-    λ net s a.
-    rw (c .before .before .row-after .ensures)
-    (half-next net s (st .args .residual .now) (st .args .t1) a _ (l .i) (l .residual) (l .inv net s a) (c .before .before .before .before .before .before .before .before .before .loop-test .taken))
+    λ net s a. rw (c .before .before .row-after .ensures) (half-next a (l .inv net s a) (c .before .before .before .before .before .before .before .before .before .loop-test .taken))
 
 returns : tie.Need-returns Inv-loop μ-loop
-returns c =
-    let st = c .before .before .before in
-    let l = c .before .loop in
-    λ net s a. half-end net s (st .args .residual .now) (st .args .t1) a _ (l .i) (l .residual) (l .inv net s a) (c .loop-test .left) refl
+returns c = λ net s a. half-end a (c .before .loop .inv net s a) (c .loop-test .left) refl
 
 pub push-spec : {M : Type 1} → statement M
 push-spec =

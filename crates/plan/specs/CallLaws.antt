@@ -1,0 +1,106 @@
+-- The ways through the calls, one law for each return of the code.
+use mathlib.Core.Path.{_≡_, refl, sym, ap}
+use mathlib.Core.Bool.{Bool, true, false, not, _&&_}
+use mathlib.Core.List.{List, [], _∷_}
+use Prim.Native.Nat.{ℕ, suc, _≤_, _<_}
+use native.Mathlib.Omega.{arith}
+use lib.ListN.{length}
+use lib.Dec.{ltb, eqb}
+use lib.IntN.{ℤ, pos, _-ℤ_}
+use borrow.Author.Tests.{lt-ltb, le-ltb, not-false}
+use Rattle.network.specs.Checks.{Row, row, check, chain, accepted, Given, only}
+use Rattle.network.specs.Limits.{maxValue}
+use Rattle.max_flow.specs.LargestFlow.{LargestFlow}
+use Rattle.cut_tree.specs.Path.{pairRows, lightestOn, answer, queryOf, numberOf, weightOf}
+use Rattle.cut_tree.specs.declared.PairAnswer.{PairAnswer}
+use Rattle.cut_tree.specs.declared.PairAnswer.the-variants.{Refused, Found}
+use Rattle.plan.specs.Plan.{sound}
+use Rattle.plan.specs.Calls.{maxDemand, unsound, pairNumber, pairOf, flowRows, flowNumber, Flowed, headroomBy, headroomNumber, headroomOf}
+use Rattle.plan.specs.ChecksLaws.{one-not-below}
+use Rattle.plan.specs.SoundFacts.{sound-weight}
+use Rattle.plan.specs.CallParts.{refusedHeadroom}
+use Rattle.plan.specs.declared.Plan.{Plan}
+use Rattle.plan.specs.declared.Headroom.{Headroom}
+
+-- ---- pair
+module _ (p : Plan) (s t : ℕ) where
+  pub pair-unsound : sound p ≡ false → pairOf p s t ≡ Refused 19
+  unfolding pairOf pairNumber
+  pair-unsound e = rw e
+
+  pub pair-query : sound p ≡ true → pairOf p s t ≡ queryOf (p .tree) (p .network .nodes) s t
+  unfolding pairOf pairNumber queryOf
+  pair-query e = rw e
+
+-- ---- headroom, by the pair's answer: the rows before its own are the pair's
+abbrev rows : Bool → Bool → Bool → ℕ → ℕ
+rows x y z later = check x 19 (check y 14 (check z 15 later))
+
+abbrev asked : PairAnswer → Bool → Bool → Bool → PairAnswer
+asked a x y z = accepted (rows x y z 0) a Refused
+
+-- the answer that is asked for is no refusal
+abbrev Right : PairAnswer → Type 0
+Right a = (e : ℕ) → a ≡ Refused e → ⊥
+
+refused-rows : (a : PairAnswer) → Right a → (later : ℕ) (h : Headroom) (e : ℕ) (x y z : Bool)
+    → asked a x y z ≡ Refused e → accepted (rows x y z later) h refusedHeadroom ≡ refusedHeadroom e
+refused-rows a found later h e true y z q = ap refusedHeadroom (ap numberOf q)
+refused-rows a found later h e false true z q = ap refusedHeadroom (ap numberOf q)
+refused-rows a found later h e false false true q = ap refusedHeadroom (ap numberOf q)
+refused-rows a found later h e false false false q = absurd (found e q)
+
+found-rows : (a : PairAnswer) (later w v side size : ℕ) (x y z : Bool)
+    → asked a x y z ≡ Found w v side size → (x ≡ false) × (rows x y z later ≡ later) × (weightOf a ≡ w)
+found-rows a later w v side size true y z q = let n : _≡_ {A = ℕ} 0 1 = cc in absurd (omega arith)
+found-rows a later w v side size false true z q = let n : _≡_ {A = ℕ} 0 1 = cc in absurd (omega arith)
+found-rows a later w v side size false false true q = let n : _≡_ {A = ℕ} 0 1 = cc in absurd (omega arith)
+found-rows a later w v side size false false false q = (refl, refl, ap weightOf q)
+
+module _ (p : Plan) (s t : ℕ) where
+  answer-right : Right (answer (p .tree) (p .network .nodes) s t)
+  unfolding answer
+  answer-right e q = let z : _≡_ {A = ℕ} 0 1 = cc in omega arith
+
+  pub headroom-refused : (e demand : ℕ) → pairOf p s t ≡ Refused e → headroomOf p s t demand ≡ refusedHeadroom e
+  unfolding pairOf pairNumber headroomOf headroomNumber
+  headroom-refused e demand q =
+      let n = p .network .nodes in
+      refused-rows (answer (p .tree) n s t) answer-right _ _ e (not (sound p)) (not (ltb s n && ltb t n)) (eqb s t) q
+
+  module _ (w v side size : ℕ) (q : pairOf p s t ≡ Found w v side size) where
+    by-pair : (later : List Row)
+        → (not (sound p) ≡ false) × (chain (unsound p ∷ pairRows (p .network .nodes) s t later) ≡ chain later) × (weightOf (answer (p .tree) (p .network .nodes) s t) ≡ w)
+    unfolding pairOf pairNumber
+    by-pair later =
+        let n = p .network .nodes in
+        found-rows (answer (p .tree) n s t) (chain later) w v side size (not (sound p)) (not (ltb s n && ltb t n)) (eqb s t) q
+
+    pub found-weight : w ≤ maxValue
+    unfolding answer
+    found-weight = omega (arith, by-pair [] .2, sound-weight p (not-false _ (by-pair [] .0)) (lightestOn (p .tree) s t))
+
+    pub headroom-over : (demand : ℕ) → maxDemand < demand → headroomOf p s t demand ≡ refusedHeadroom 17
+    unfolding headroomOf headroomNumber
+    headroom-over demand l = rw (by-pair (row (ltb maxDemand demand) 17 ∷ []) .1, lt-ltb maxDemand demand l)
+
+    pub headroom-found : (demand : ℕ) → demand ≤ maxDemand → headroomOf p s t demand ≡ headroomBy (pos w -ℤ pos demand)
+    unfolding headroomOf headroomNumber
+    headroom-found demand l = rw (by-pair (row (ltb maxDemand demand) 17 ∷ []) .1, le-ltb maxDemand demand l, by-pair [] .2)
+
+-- ---- flow
+-- s is no node; t is none
+pub first-outside : (s t n : ℕ) → n ≤ s → not (ltb s n && ltb t n) ≡ true
+first-outside s t n l = one-not-below s t n .1 (λ h. omega (arith, h .0))
+
+pub other-outside : (s t n : ℕ) → n ≤ t → not (ltb s n && ltb t n) ≡ true
+other-outside s t n l = one-not-below s t n .1 (λ h. omega (arith, h .1))
+
+module _ (p : Plan) (s t : ℕ) (before : List ℤ) where
+  pub flow-refused : (e : ℕ) → Given (flowRows p s t (length before)) (suc e) → Flowed p s t before (suc e) before
+  unfolding flowNumber
+  flow-refused e g = record { number-is = sym (only g); lawful = λ q. absurd (omega arith); total = λ q. absurd (omega arith); untouched = λ q. refl }
+
+  pub flow-filled : (behind : List ℤ) → Given (flowRows p s t (length before)) 0 → LargestFlow (p .network) s t behind → Flowed p s t before 0 behind
+  unfolding flowNumber
+  flow-filled behind g f = record { number-is = sym (only g); lawful = λ q. f .lawful; total = λ q. f .total; untouched = λ q. absurd (q refl) }

@@ -1,0 +1,10 @@
+-- Parts of the calls that functions of the code answer by themselves.
+use Prim.Native.Nat.{ℕ}
+use lib.ListN.{replicate}
+use lib.IntN.{pos}
+use Rattle.text.specs.Text.{textWidth}
+use Rattle.plan.specs.declared.Headroom.{Headroom}
+
+-- a headroom beside a refusal: 0 and spaces
+abbrev pub refusedHeadroom : ℕ → Headroom
+refusedHeadroom e = record { number = e; value = pos 0; text = replicate textWidth 32 }

@@ -1,0 +1,75 @@
+// Opening and writing.
+use crate::Opening;
+use crate::Plan;
+use crate::entries;
+use cut_tree::Steps;
+use cut_tree::Tree;
+use network::MAX_LINKS;
+use network::MAX_NODES;
+use network::Network;
+ghost use mathlib.Core.Bool.{true};
+ghost use mathlib.Core.Path.{_≡_};
+ghost use Rattle.network.specs.Network.{networkFits};
+ghost use Rattle.plan.specs.Calls.{fresh, openOf};
+ghost use Rattle.plan.specs.Plan.{noPlan};
+
+fn no_plan() -> Plan
+    ensures { λ r. ⌜ r ≡ noPlan ⌝ }
+{
+    Plan {
+        network: Network {
+            nodes: 0,
+            links: 0,
+            a: [0; MAX_LINKS],
+            b: [0; MAX_LINKS],
+            capacity: [0; MAX_LINKS],
+        },
+        tree: Tree {
+            parent: [0; MAX_NODES],
+            weight: [0; MAX_NODES],
+        },
+        steps: Steps {
+            pivot: [0; MAX_NODES],
+            side: [0; MAX_NODES],
+            value: [0; MAX_NODES],
+        },
+        stack: entries::empty(),
+    }
+}
+
+// The plan of a network, with an empty stack.
+fn fresh(net: Network) -> Plan
+    requires { ⌜ networkFits net ≡ true ⌝ }
+    ensures { λ r. ⌜ r ≡ fresh net ⌝ }
+{
+    let built = cut_tree::build(net);
+    let tree = built.tree;
+    let steps = built.steps;
+    let stack = entries::empty();
+    Plan {
+        network: net,
+        tree: tree,
+        steps: steps,
+        stack: stack,
+    }
+}
+
+pub fn open(file: &[u8]) -> Opening
+    ensures { λ r. ⌜ r ≡ openOf (now (file .entry)) ⌝ }
+{
+    let reading = network_file::read(file);
+    if reading.number != 0 {
+        let plan = no_plan();
+        return Opening {
+            number: reading.number,
+            place: reading.place,
+            plan: plan,
+        };
+    }
+    let plan = fresh(reading.network);
+    Opening {
+        number: 0,
+        place: 0,
+        plan: plan,
+    }
+}
