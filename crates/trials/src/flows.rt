@@ -1,4 +1,6 @@
 // Least minimum cuts and lawful flows, for all pairs of random networks.
+use crate::lawful::balance_of;
+use crate::lawful::lawful;
 use crate::random::draw_network;
 use crate::sides::PAIRS;
 use crate::sides::WORDS;
@@ -12,9 +14,7 @@ use crate::tally::count_network;
 use crate::tally::count_pair;
 use crate::tally::nothing;
 use network::MAX_LINKS;
-use network::MAX_NODES;
 use network::Network;
-use std::num::wrapping_add_u64;
 ghost use mathlib.Core.Bool.{true};
 ghost use mathlib.Core.Path.{_≡_};
 ghost use Rattle.max_flow.specs.LeastCut.{Endpoints};
@@ -26,79 +26,6 @@ const LAST_NODE: usize = 9;
 const LINKS: usize = 20;
 
 const SEED: usize = 1;
-
-// What goes from a to b, and what goes back.
-fn forward(f: i32) -> u32 {
-    if f < 0 { 0 } else { f as u32 }
-}
-
-fn backward(f: i32) -> u32 {
-    if f < 0 { (!f) as u32 + 1 } else { 0 }
-}
-
-// What leaves each node, what enters it, and whether every link is within its capacity.
-struct Balance {
-    leaves: [u64; MAX_NODES],
-    enters: [u64; MAX_NODES],
-    within: bool,
-}
-
-fn add_at(sums: &mut [u64; MAX_NODES], node: u8, x: u32) {
-    let i = node as usize % MAX_NODES;
-    sums[i] = wrapping_add_u64(sums[i], x as u64);
-}
-
-fn both_within(within: bool, there: u32, back: u32, capacity: u32) -> bool {
-    if there > capacity {
-        return false;
-    }
-    if back > capacity {
-        return false;
-    }
-    within
-}
-
-fn balance_of(net: Network, flow: [i32; MAX_LINKS]) -> Balance
-    requires { ⌜ networkFits net ≡ true ⌝ }
-{
-    let m = net.links;
-    let mut leaves = [0u64; MAX_NODES];
-    let mut enters = [0u64; MAX_NODES];
-    let mut within = true;
-    for k in 0..m {
-        let a = net.a[k];
-        let b = net.b[k];
-        let there = forward(flow[k]);
-        let back = backward(flow[k]);
-        add_at(&mut leaves, a, there);
-        add_at(&mut enters, b, there);
-        add_at(&mut leaves, b, back);
-        add_at(&mut enters, a, back);
-        within = both_within(within, there, back, net.capacity[k]);
-    }
-    Balance {
-        leaves: leaves,
-        enters: enters,
-        within: within,
-    }
-}
-
-// value, at one node
-fn at_node(x: usize, y: usize, value: u32) -> u64 {
-    if x == y { value as u64 } else { 0 }
-}
-
-// Whether every link is within its capacity, what enters leaves at each node but s and t, and the total is `value`.
-fn lawful(b: Balance, s: usize, t: usize, value: u32) -> bool {
-    for x in 0..MAX_NODES {
-        let left = wrapping_add_u64(b.leaves[x], at_node(x, t, value));
-        let entered = wrapping_add_u64(b.enters[x], at_node(x, s, value));
-        if left != entered {
-            return false;
-        }
-    }
-    b.within
-}
 
 fn flow_right(net: Network, s: usize, t: usize, value: u32) -> bool
     requires { ⌜ Endpoints net s t ⌝ }

@@ -8,6 +8,11 @@ pub fn next(v: usize) -> usize {
     (v % 2147483648 * 1103515245 + 12345) % 2147483648
 }
 
+// A state to go on from beside v, for draws that are not those of v.
+pub fn apart(v: usize) -> usize {
+    v ^ 1431655765
+}
+
 // A number from 0 to most.
 pub fn draw(v: usize, most: usize) -> usize
     requires { ⌜ most < 4294967296 ⌝ }
@@ -28,7 +33,7 @@ fn highest(v: usize) -> usize
     }
 }
 
-pub fn capacity(v: usize, w: usize) -> u32 {
+fn capacity(v: usize, w: usize) -> u32 {
     draw(w, highest(v)) as u32
 }
 
@@ -126,4 +131,14 @@ pub fn draw_network(v: usize, last: usize, most: usize) -> Drawn
     let end = draw(w, last);
     let m = links(x, end, most);
     with_links(x, end, m)
+}
+
+// A capacity for link k to change to: sometimes the one that it has.
+pub fn new_capacity(v: usize, net: Network, k: usize) -> u32 {
+    let i = k % MAX_LINKS;
+    let w = next(v);
+    if draw(v, 7) == 0 {
+        return net.capacity[i];
+    }
+    capacity(w, next(w))
 }

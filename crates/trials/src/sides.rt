@@ -45,6 +45,14 @@ pub fn values_of(net: Network) -> [u32; WORDS]
     values
 }
 
+// The same of any record; none where it is no network within the limits.
+pub fn values_if_fits(net: Network) -> [u32; WORDS] {
+    if network::fits(net) {
+        return values_of(net);
+    }
+    [NO_VALUE; WORDS]
+}
+
 pub fn value_at(values: &[u32; WORDS], side: u64) -> u32 {
     values[side as usize % WORDS]
 }

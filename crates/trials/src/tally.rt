@@ -5,6 +5,8 @@ use std::num::wrapping_add_u64;
 pub struct Tally {
     pub networks: u64,
     pub changes: u64,
+    pub lists: u64,
+    pub calls: u64,
     pub pairs: u64,
     pub wrong: u64,
 }
@@ -13,40 +15,50 @@ pub fn nothing() -> Tally {
     Tally {
         networks: 0,
         changes: 0,
+        lists: 0,
+        calls: 0,
         pairs: 0,
         wrong: 0,
     }
 }
 
-fn wrong_if(right: bool) -> u64 {
-    if right { 0 } else { 1 }
+fn judged(t: Tally, right: bool) -> Tally {
+    let mut next = t;
+    if right {
+        return next;
+    }
+    next.wrong = wrapping_add_u64(t.wrong, 1);
+    next
 }
 
 pub fn count_network(t: Tally, right: bool) -> Tally {
-    Tally {
-        networks: wrapping_add_u64(t.networks, 1),
-        changes: t.changes,
-        pairs: t.pairs,
-        wrong: wrapping_add_u64(t.wrong, wrong_if(right)),
-    }
+    let mut next = judged(t, right);
+    next.networks = wrapping_add_u64(t.networks, 1);
+    next
 }
 
 pub fn count_change(t: Tally, right: bool) -> Tally {
-    Tally {
-        networks: t.networks,
-        changes: wrapping_add_u64(t.changes, 1),
-        pairs: t.pairs,
-        wrong: wrapping_add_u64(t.wrong, wrong_if(right)),
-    }
+    let mut next = judged(t, right);
+    next.changes = wrapping_add_u64(t.changes, 1);
+    next
+}
+
+pub fn count_list(t: Tally, right: bool) -> Tally {
+    let mut next = judged(t, right);
+    next.lists = wrapping_add_u64(t.lists, 1);
+    next
+}
+
+pub fn count_call(t: Tally, right: bool) -> Tally {
+    let mut next = judged(t, right);
+    next.calls = wrapping_add_u64(t.calls, 1);
+    next
 }
 
 pub fn count_pair(t: Tally, right: bool) -> Tally {
-    Tally {
-        networks: t.networks,
-        changes: t.changes,
-        pairs: wrapping_add_u64(t.pairs, 1),
-        wrong: wrapping_add_u64(t.wrong, wrong_if(right)),
-    }
+    let mut next = judged(t, right);
+    next.pairs = wrapping_add_u64(t.pairs, 1);
+    next
 }
 
 // " 12 things", where there are any
@@ -63,6 +75,8 @@ pub fn print(name: &[u8], t: Tally) {
     io::write_all(STDOUT_FILENO, name);
     print_count(t.networks, b" networks");
     print_count(t.changes, b" changes");
+    print_count(t.lists, b" lists");
+    print_count(t.calls, b" calls");
     print_count(t.pairs, b" pairs");
     io::write_all(STDOUT_FILENO, b" ");
     io::print_decimal(STDOUT_FILENO, t.wrong);

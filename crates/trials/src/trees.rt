@@ -1,15 +1,19 @@
 // Trees built and worked out again after changes of one capacity, on random networks.
+use crate::keeping::Change;
+use crate::keeping::change_of;
+use crate::keeping::steps_not_kept;
+use crate::keeping::with_capacity;
 use crate::pairs::answer_right;
-use crate::random::capacity;
+use crate::random::apart;
 use crate::random::draw;
 use crate::random::draw_network;
+use crate::random::new_capacity;
 use crate::random::next;
 use crate::same::same_steps;
 use crate::same::same_tree;
 use crate::sides::PAIRS;
 use crate::sides::WORDS;
 use crate::sides::from_of;
-use crate::sides::holds;
 use crate::sides::to_of;
 use crate::sides::values_of;
 use crate::tally::Tally;
@@ -22,9 +26,7 @@ use cut_tree::Steps;
 use cut_tree::Tree;
 use network::MAX_CAPACITY;
 use network::MAX_LINKS;
-use network::MAX_NODES;
 use network::Network;
-use std::num::wrapping_add_u32;
 ghost use mathlib.Core.Bool.{true};
 ghost use mathlib.Core.Path.{_≡_};
 ghost use Rattle.network.specs.Network.{networkFits};
@@ -39,46 +41,6 @@ const LAST_NODE: usize = 8;
 const LINKS: usize = 16;
 
 const SEED: usize = 2;
-
-// A link from a to b whose capacity changes.
-struct Change {
-    a: usize,
-    b: usize,
-    old: u32,
-    new: u32,
-}
-
-// 1 where a recorded step, whose pivot is t afterwards, is not kept, by document 01's rule.
-fn not_kept(h: Change, pivot: u8, side: u64, value: u32, t: u8) -> u32 {
-    let crossed = holds(side, h.a) != holds(side, h.b);
-    if pivot != t {
-        return 1;
-    }
-    if h.new == h.old {
-        return 0;
-    }
-    if h.new > h.old {
-        return if crossed { 1 } else { 0 };
-    }
-    if crossed {
-        return if h.old - h.new > value { 1 } else { 0 };
-    }
-    1
-}
-
-fn step_not_kept(h: Change, old: Steps, new: Steps, s: usize) -> u32 {
-    let i = s % MAX_NODES;
-    not_kept(h, old.pivot[i], old.side[i], old.value[i], new.pivot[i])
-}
-
-// How many steps are not kept, by the steps before and the pivots afterwards.
-fn steps_not_kept(h: Change, old: Steps, new: Steps, n: usize) -> u32 {
-    let mut count: u32 = 0;
-    for s in 1..n {
-        count = wrapping_add_u32(count, step_not_kept(h, old, new, s));
-    }
-    count
-}
 
 // Whether a rebuild is what a fresh build is, and its count the keeping rule's.
 fn rebuild_right(h: Change, n: usize, recorded: Steps, rebuilt: Built, fresh: Built) -> bool {
@@ -137,23 +99,6 @@ fn failed(walk: Walk) -> Walk {
     }
 }
 
-fn change_of(net: Network, k: usize, d: u32) -> Change {
-    let i = k % MAX_LINKS;
-    Change {
-        a: net.a[i] as usize,
-        b: net.b[i] as usize,
-        old: net.capacity[i],
-        new: d,
-    }
-}
-
-fn with_capacity(net: Network, k: usize, d: u32) -> Network {
-    let i = k % MAX_LINKS;
-    let mut changed = net;
-    changed.capacity[i] = d;
-    changed
-}
-
 // Link k of the network goes to capacity d, by which it is `changed`.
 fn compare(walk: Walk, changed: Network, k: usize, d: u32) -> Walk
     requires { ⌜ Changes (walk .network) k d × (networkFits changed ≡ true) ⌝ }
@@ -193,21 +138,6 @@ fn try_change(walk: Walk, k: usize, d: u32) -> Walk {
     failed(walk)
 }
 
-// A capacity to change to: sometimes the same.
-fn new_capacity(v: usize, old: u32) -> u32 {
-    let w = next(v);
-    let x = next(w);
-    if draw(v, 7) == 0 {
-        return old;
-    }
-    capacity(w, x)
-}
-
-fn capacity_of(net: Network, k: usize) -> u32 {
-    let i = k % MAX_LINKS;
-    net.capacity[i]
-}
-
 // One change of a random link, where there is a link.
 fn change_once(walk: Walk) -> Walk {
     let v = next(walk.state);
@@ -220,7 +150,7 @@ fn change_once(walk: Walk) -> Walk {
         return failed(walk);
     }
     let k = draw(v, m - 1);
-    let d = new_capacity(w, capacity_of(walk.network, k));
+    let d = new_capacity(w, walk.network, k);
     let mut moved = walk;
     moved.state = next(w);
     try_change(moved, k, d)
@@ -257,7 +187,7 @@ pub fn try_trees(networks: usize) -> Tally {
     for i in 0..networks {
         let drawn = draw_network(state, LAST_NODE, LINKS);
         state = drawn.state;
-        tally = try_network(tally, state, drawn.network);
+        tally = try_network(tally, apart(state), drawn.network);
     }
     tally
 }

@@ -3,8 +3,8 @@ use mathlib.Core.Path.{sym, _∙_}
 use native.Mathlib.Omega.{arith}
 use Rattle.text.specs.ColumnsLaws.{below-zero, not-is}
 use borrow.Author.Needs.{needs}
-use Rattle.trials.proofs.flows.backward.Statement.{statement}
-use Rattle.trials.proofs.flows.backward.Tie as tie
+use Rattle.trials.proofs.lawful.backward.Statement.{statement}
+use Rattle.trials.proofs.lawful.backward.Tie as tie
 
 cast-result : tie.Need-cast-result
 cast-result c = rw (not-is (c .before .args .f) (c .before .fits .f) (sym (below-zero (c .before .args .f) (c .before .fits .f)) ∙ c .if1 .taken)) (tt, record { fits = omega (arith, c .before .fits .f .sfits) })

@@ -1,8 +1,8 @@
 -- `steps_not_kept` is safe and ends.
 use borrow.Author.Needs.{needs}
 use Prim.Native.Nat.{_-_, _≤_, _<_}
-use Rattle.trials.proofs.trees.steps_not_kept.Statement.{statement}
-use Rattle.trials.proofs.trees.steps_not_kept.Tie as tie
+use Rattle.trials.proofs.keeping.steps_not_kept.Statement.{statement}
+use Rattle.trials.proofs.keeping.steps_not_kept.Tie as tie
 
 abbrev Inv-loop : tie.InvT-loop
 Inv-loop h old new n count₀ s₀ count s = 1 ≤ s

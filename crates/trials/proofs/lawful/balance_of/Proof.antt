@@ -2,8 +2,8 @@
 use borrow.Author.Needs.{needs}
 use Prim.Native.Nat.{_-_, _≤_, _<_}
 use Rattle.network.specs.NetworkLaws.{links-le}
-use Rattle.trials.proofs.flows.balance_of.Statement.{statement}
-use Rattle.trials.proofs.flows.balance_of.Tie as tie
+use Rattle.trials.proofs.lawful.balance_of.Statement.{statement}
+use Rattle.trials.proofs.lawful.balance_of.Tie as tie
 
 abbrev Inv-loop : tie.InvT-loop
 Inv-loop net flow m leaves₀ enters₀ within₀ k₀ leaves enters within k = (k ≤ m) × (m ≤ 256)

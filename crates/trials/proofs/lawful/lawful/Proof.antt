@@ -1,8 +1,8 @@
 -- `lawful` is safe and ends.
 use borrow.Author.Needs.{needs}
 use Prim.Native.Nat.{_-_, _≤_, _<_}
-use Rattle.trials.proofs.flows.lawful.Statement.{statement}
-use Rattle.trials.proofs.flows.lawful.Tie as tie
+use Rattle.trials.proofs.lawful.lawful.Statement.{statement}
+use Rattle.trials.proofs.lawful.lawful.Tie as tie
 
 abbrev Inv-loop : tie.InvT-loop
 Inv-loop s t value b x₀ x = x ≤ 64
