@@ -6,7 +6,7 @@ use borrow.Author.Needs.{needs}
 use Rattle.network.specs.Limits.{maxLinks}
 use Rattle.network.specs.NetworkLaws.{links-le}
 use Rattle.plan.specs.Calls.{altered}
-use Rattle.plan.specs.ChangeLaws.{change-refused, change-accepted, change-assumes}
+use Rattle.plan.specs.ChangesLaws.{change-refused, change-accepted, change-assumes}
 use Rattle.plan.specs.declared.Stack.{Stack}
 use Rattle.plan.proofs.changes.change.Statement.{statement}
 use Rattle.plan.proofs.changes.change.Tie as tie

@@ -7,7 +7,7 @@ use Rattle.network.specs.BasicsLaws.{answered-yes}
 use Rattle.network.specs.Checks.{passed, here, later}
 use Rattle.plan.specs.ChecksLaws.{both-below}
 use Rattle.plan.specs.SoundFacts.{sound-network}
-use Rattle.plan.specs.CallLaws.{first-outside, other-outside, flow-refused, flow-filled}
+use Rattle.plan.specs.FlowsLaws.{first-outside, other-outside, flow-refused, flow-filled}
 use Rattle.plan.proofs.flows.flow.Statement.{statement}
 use Rattle.plan.proofs.flows.flow.Tie as tie
 
