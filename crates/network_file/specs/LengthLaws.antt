@@ -102,7 +102,8 @@ links-bytes net e (suc k) l =
     let B = numberBytes (at (net .b) k) in
     let C = numberBytes (at (net .capacity) k) in
     bytes-append (linkBytes net k) (A ++ (B ++ C)) (links-bytes net e k (omega arith))
-    (bytes-append A (B ++ C) (number-bytes (at (net .a) k) (omega arith)) (bytes-append B C (number-bytes (at (net .b) k) (omega arith)) (number-bytes (at (net .capacity) k) (omega arith))))
+    (bytes-append A (B ++ C) (number-bytes (at (net .a) k) (omega arith))
+    (bytes-append B C (number-bytes (at (net .b) k) (omega arith)) (number-bytes (at (net .capacity) k) (omega arith))))
 
 pub file-bytes : (net : Network) → networkFits net ≡ true → Bytes (fileOf net)
 unfolding fileOf

@@ -80,7 +80,10 @@ module _ {A : Type 0} (s : List ℕ) (place : ℕ) (row : ℕ → ℕ) (stop nex
   taken-refused zero v size n = absurd (n refl)
   taken-refused (suc e) v size n = rw (lt-ltb 0 (suc e) (omega arith))
 
-  taken-checked : (e v size : ℕ) → checked e v size noRow .number ≡ 0 → by (checked e v size row) ≡ accepted (row (checked e v size noRow .value)) (next (checked e v size noRow .value) (checked e v size noRow .next)) (λ e. stop e place)
+  abbrev by-its-row : Taken → A
+  by-its-row t = accepted (row (t .value)) (next (t .value) (t .next)) (λ e. stop e place)
+
+  taken-checked : (e v size : ℕ) → checked e v size noRow .number ≡ 0 → by (checked e v size row) ≡ by-its-row (checked e v size noRow)
   unfolding checked
   taken-checked zero v size q = go (row v)
     where
@@ -97,12 +100,12 @@ module _ {A : Type 0} (s : List ℕ) (place : ℕ) (row : ℕ → ℕ) (stop nex
         ap (λ (u : Taken). stop (u .number) place) is
         ∙ taken-refused (numberOf r) (valueIn r) (sizeIn r) (λ q. n (ap (λ (u : Taken). u .number) is ∙ q))
 
-    by-row : t .number ≡ 0 → taking s place row stop next ≡ accepted (row (t .value)) (next (t .value) (t .next)) (λ e. stop e place)
+    by-row : t .number ≡ 0 → taking s place row stop next ≡ by-its-row t
     unfolding taken checked
     by-row z =
         let r = readNumber (drop place s) in
         taken-checked (numberOf r) (valueIn r) (sizeIn r) (sym (ap (λ (u : Taken). u .number) is) ∙ z)
-        ∙ sym (ap (λ (u : Taken). accepted (row (u .value)) (next (u .value) (u .next)) (λ e. stop e place)) is)
+        ∙ sym (ap by-its-row is)
 
     pub stops-by-row : t .number ≡ 0 → (k : ℕ) → row (t .value) ≡ suc k → stop (suc k) place ≡ taking s place row stop next
     stops-by-row z k e = sym (by-row z ∙ ap (λ (j : ℕ). accepted j (next (t .value) (t .next)) (λ e. stop e place)) e)

@@ -55,7 +55,9 @@ link-told s place n left d0 =
       b-below = other-end-passed n left a b pb .0;
       differ = other-end-passed n left a b pb .1;
       c-within = capacity-passed n left c pc;
-      written = λ h. stands-written s (place + i + j) c k h sc ∙ ap (λ (l : List ℕ). l ++ numberBytes c) (stands-written s (place + i) b j h sb ∙ ap (λ (l : List ℕ). l ++ numberBytes b) (stands-written s place a i h sa)) ∙ simp append-assoc;
+      written = λ h.
+          stands-written s (place + i + j) c k h sc ∙ ap (λ (l : List ℕ). l ++ numberBytes c) (stands-written s (place + i) b j h sb)
+          ∙ ap (λ (l : List ℕ). l ++ numberBytes b ++ numberBytes c) (stands-written s place a i h sa) ∙ simp append-assoc;
     })
 
 -- ---- the links

@@ -44,7 +44,8 @@ module _ (net : Network) where
   links-up zero k l = absurd (omega arith)
   links-up (suc m) k l = go (ℕ-discrete k m) (λ h. links-up m k h)
     where
-      go : Dec (k ≡ m) → (k < m → length (linkBytes net k) + length (linkOf net k) ≤ length (linkBytes net m)) → length (linkBytes net k) + length (linkOf net k) ≤ length (linkBytes net m ++ linkOf net m)
+      go : Dec (k ≡ m) → (k < m → length (linkBytes net k) + length (linkOf net k) ≤ length (linkBytes net m))
+          → length (linkBytes net k) + length (linkOf net k) ≤ length (linkBytes net m ++ linkOf net m)
       go (yes e) ih = rw e (omega (arith, length-append (linkBytes net m) (linkOf net m)))
       go (no n) ih = omega (arith, ih (omega arith), length-append (linkBytes net m) (linkOf net m))
 

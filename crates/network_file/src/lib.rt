@@ -4,6 +4,10 @@ mod reader; // a file read into a network
 mod writer; // a network written into a file
 
 use network::Network;
+
+// The bytes of the longest file.
+pub const MAX_FILE: usize = 1283;
+
 pub use numbers::read_number;
 pub use reader::read;
 pub use writer::file_length;
@@ -28,7 +32,7 @@ pub struct FileWritten {
     pub length: usize,
 }
 
-// A number that was read and checked by its row: number 0, its value and the place behind it; or a refusal number.
+// A number taken from the file: number 0, its value and the place behind it; or a refusal number.
 struct Taken {
     number: u32,
     value: u32,
