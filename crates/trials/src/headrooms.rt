@@ -1,7 +1,7 @@
 // Headrooms and their text (document 01, "Headroom"), written a second time.
 use crate::lawful::backward;
 use crate::lawful::forward;
-use plan::Headroom;
+use plan::HeadroomReply;
 use std::num::wrapping_add_u64;
 
 // The twelve bytes for a size in tenths, from the right: a digit, a point, digits, a minus if there is one, spaces.
@@ -75,7 +75,7 @@ fn value_right(value: i32, weight: u32, demand: u32) -> bool {
 }
 
 // Whether a reply has this number; accepted, the weight less the demand and its text; refused, 0 and twelve spaces.
-pub fn headroom_right(reply: Headroom, number: u32, weight: u32, demand: u32) -> bool {
+pub fn headroom_right(reply: HeadroomReply, number: u32, weight: u32, demand: u32) -> bool {
     if reply.number != number {
         return false;
     }

@@ -75,4 +75,3 @@ pub fn lawful(b: Balance, s: usize, t: usize, value: u32) -> bool {
     }
     b.within
 }
-

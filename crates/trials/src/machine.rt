@@ -3,6 +3,7 @@ use crate::keeping::with_capacity;
 use network::MAX_CAPACITY;
 use network::MAX_LINKS;
 use network::Network;
+use plan::MAX_DEMAND;
 use plan::MAX_DEPTH;
 use plan::Stack;
 
@@ -32,7 +33,7 @@ pub fn change_number(x: Machine, k: usize, c: u32) -> u32 {
     if c > MAX_CAPACITY {
         return 11;
     }
-    if x.stack.depth == 64 {
+    if x.stack.depth == MAX_DEPTH {
         return 12;
     }
     0
@@ -66,7 +67,7 @@ pub fn headroom_number(x: Machine, s: usize, t: usize, demand: u32) -> u32 {
     if number != 0 {
         return number;
     }
-    if demand > 1_000_000_000 { 17 } else { 0 }
+    if demand > MAX_DEMAND { 17 } else { 0 }
 }
 
 // An accepted change: (k, old capacity) is pushed and k is set.

@@ -16,7 +16,9 @@ mod tally; // counts
 mod trees; // trees and changes
 
 fn main() {
-    tally::print(b"flow", flows::try_flows(3000));
-    tally::print(b"tree", trees::try_trees(1000));
-    tally::print(b"plan", plans::try_plans(300));
+    tally::print(b"flow", flows::try_flows(1000));
+    tally::print(b"tree", trees::try_trees(300));
+    let plans = plans::try_plans(100);
+    tally::print(b"plan", plans);
+    tally::print_refusals(plans);
 }

@@ -4,12 +4,16 @@ use crate::calls::flow_right;
 use crate::calls::headroom_call_right;
 use crate::calls::pair_right;
 use crate::calls::undo_right;
-use crate::files::FILE;
+use crate::files::damaged_right;
+use crate::files::file_right;
+use crate::files::open_first;
 use crate::files::put_file;
-use crate::files::same_bytes;
 use crate::machine::Machine;
 use crate::machine::change_number;
 use crate::machine::changed;
+use crate::machine::flow_number;
+use crate::machine::headroom_number;
+use crate::machine::pair_number;
 use crate::machine::started;
 use crate::machine::undo_number;
 use crate::machine::undone;
@@ -18,7 +22,6 @@ use crate::random::draw;
 use crate::random::draw_network;
 use crate::random::new_capacity;
 use crate::random::next;
-use crate::same::same_but_stack;
 use crate::same::same_network;
 use crate::sides::PAIRS;
 use crate::sides::WORDS;
@@ -32,10 +35,12 @@ use crate::tally::count_network;
 use crate::tally::count_pair;
 use crate::tally::nothing;
 use network::MAX_CAPACITY;
-use network::MAX_LINKS;
 use network::Network;
-use plan::Opening;
+use network_file::MAX_FILE;
+use plan::MAX_DEMAND;
 use plan::Plan;
+ghost use Prim.Native.Nat.{_≤_};
+ghost use Rattle.network.specs.Limits.{maxLinks};
 
 // How many lists of calls a plan gets, and of how many nodes and links the networks are: sometimes of so many that m has two bytes.
 const LISTS: usize = 4;
@@ -44,7 +49,9 @@ const LAST_NODE: usize = 8;
 
 const SEED: usize = 3;
 
-fn most_links(v: usize) -> usize {
+fn most_links(v: usize) -> usize
+    ensures { λ r. ⌜ r ≤ maxLinks ⌝ }
+{
     if draw(v, 9) == 0 { 140 } else { 14 }
 }
 
@@ -62,8 +69,8 @@ fn moved(run: Run, state: usize) -> Run {
     next
 }
 
-fn counted(run: Run, right: bool) -> Run {
-    let tally = count_call(run.tally, right);
+fn counted(run: Run, number: u32, right: bool) -> Run {
+    let tally = count_call(run.tally, number, right);
     let mut next = run;
     next.tally = tally;
     next
@@ -103,7 +110,11 @@ fn try_change(run: Run, v: usize) -> Run {
     let k = some_link(v, x);
     let c = some_capacity(next(v), x, k);
     let reply = plan::change(p, k, c);
-    let tally = count_call(run.tally, change_right(p, x, k, c, reply));
+    let tally = count_call(
+        run.tally,
+        change_number(x, k, c),
+        change_right(p, x, k, c, reply),
+    );
     let after = reply.plan;
     let machine = machine_after_change(x, k, c);
     Run {
@@ -118,7 +129,7 @@ fn try_undo(run: Run) -> Run {
     let p = run.plan;
     let x = run.machine;
     let reply = plan::undo(p);
-    let tally = count_call(run.tally, undo_right(p, x, reply));
+    let tally = count_call(run.tally, undo_number(x), undo_right(p, x, reply));
     let after = reply.plan;
     let machine = machine_after_undo(x);
     Run {
@@ -140,14 +151,20 @@ fn try_question(run: Run, kind: usize, v: usize) -> Run {
     let z = next(w);
     let values = values_if_fits(x.network);
     if kind == 0 {
-        return counted(run, pair_right(p, x, &values, s, t));
+        return counted(run, pair_number(x, s, t), pair_right(p, x, &values, s, t));
     }
     if kind == 1 {
         let m = x.network.links % 256;
         let length = m + draw(z, 1);
-        return counted(run, flow_right(p, x, &values, s, t, length));
+        return counted(
+            run,
+            flow_number(x, s, t, length),
+            flow_right(p, x, &values, s, t, length),
+        );
     }
-    counted(run, headroom_call_right(p, x, &values, s, t, some_demand(z)))
+    let demand = some_demand(z);
+    let right = headroom_call_right(p, x, &values, s, t, demand);
+    counted(run, headroom_number(x, s, t, demand), right)
 }
 
 // a demand: small, large, or above the limit
@@ -156,8 +173,8 @@ fn some_demand(v: usize) -> u32 {
     match draw(v, 3) {
         0 => draw(w, 20) as u32,
         1 => draw(w, 2_000_000) as u32,
-        2 => 1_000_000_000,
-        _ => 1_000_000_001,
+        2 => MAX_DEMAND,
+        _ => MAX_DEMAND + 1,
     }
 }
 
@@ -195,57 +212,6 @@ fn calls_of_list(run: Run, mood: usize) -> Run {
     here
 }
 
-// Whether an opening is accepted and gives a plan like this one, with an empty stack.
-fn opening_right(opening: Opening, p: Plan) -> bool {
-    let fresh = opening.plan;
-    if opening.number != 0 {
-        return false;
-    }
-    if opening.place != 0 {
-        return false;
-    }
-    if fresh.stack.depth != 0 {
-        return false;
-    }
-    same_but_stack(fresh, p)
-}
-
-// Whether writing gives the file of the machine's capacities and leaves the rest, and opening it gives the plan again; whether a buffer that
-// is too short by one byte is refused and left.
-fn file_right(p: Plan, x: Machine) -> bool {
-    let mut file = [170u8; FILE];
-    let mut out = [170u8; FILE];
-    let length = put_file(&mut file, x.network);
-    if length > FILE {
-        return false;
-    }
-    if length < 1 {
-        return false;
-    }
-    let short = length - 1;
-    let refused = plan::write(p, &mut out[..short]);
-    if refused.number != 18 {
-        return false;
-    }
-    if refused.length != 0 {
-        return false;
-    }
-    if out[0] != 170 {
-        return false;
-    }
-    let written = plan::write(p, &mut out);
-    if written.number != 0 {
-        return false;
-    }
-    if written.length != length {
-        return false;
-    }
-    if !same_bytes(&file, &out) {
-        return false;
-    }
-    opening_right(plan::open(&out[..length]), p)
-}
-
 fn try_pair(tally: Tally, p: Plan, x: Machine, values: &[u32; WORDS], s: usize, t: usize) -> Tally {
     let n = x.network.nodes;
     if s >= n {
@@ -276,7 +242,7 @@ fn try_list(run: Run) -> Run {
     let after = calls_of_list(run, mood);
     let p = after.plan;
     let x = after.machine;
-    let listed = count_list(after.tally, file_right(p, x));
+    let listed = count_list(after.tally, file_right(p, x.network));
     let tally = try_pairs(listed, p, x);
     Run {
         state: after.state,
@@ -294,32 +260,10 @@ fn try_lists(run: Run) -> Tally {
     here.tally
 }
 
-// A file cut short, and one with a byte too many.
-fn damaged_right(file: [u8; FILE], length: usize) -> bool {
-    if length < 1 {
-        return false;
-    }
-    if length >= FILE {
-        return false;
-    }
-    let less = length - 1;
-    let more = length + 1;
-    let cut = plan::open(&file[..less]);
-    let longer = plan::open(&file[..more]);
-    cut.number == 1 && longer.number == 9 && longer.place == length
-}
-
-fn open_file(file: [u8; FILE], length: usize) -> Opening {
-    if length > FILE {
-        return plan::open(&file);
-    }
-    plan::open(&file[..length])
-}
-
 fn try_network(tally: Tally, state: usize, net: Network) -> Tally {
-    let mut file = [0u8; FILE];
+    let mut file = [0u8; MAX_FILE];
     let length = put_file(&mut file, net);
-    let opening = open_file(file, length);
+    let opening = open_first(file, length);
     let p = opening.plan;
     let machine = started(net);
     let right = opening.number == 0 && same_network(p.network, net) && p.stack.depth == 0;

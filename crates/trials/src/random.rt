@@ -1,7 +1,9 @@
 // Random networks, each from the state of a linear congruential generator, so that every run draws the same ones.
+use network::MAX_CAPACITY;
 use network::MAX_LINKS;
 use network::Network;
 ghost use Prim.Native.Nat.{_≤_, _<_};
+ghost use Rattle.network.specs.Limits.{maxCapacity, maxLinks, maxNodes};
 
 // The state after v. A draw leaves out the eight lowest bits, which repeat soonest.
 pub fn next(v: usize) -> usize {
@@ -23,13 +25,13 @@ pub fn draw(v: usize, most: usize) -> usize
 
 // The highest capacity that is drawn: mostly so small that ties and zeros are common.
 fn highest(v: usize) -> usize
-    ensures { λ r. ⌜ r ≤ 1000000 ⌝ }
+    ensures { λ r. ⌜ r ≤ maxCapacity ⌝ }
 {
     match draw(v, 3) {
         0 => 1,
         1 => 3,
         2 => 12,
-        _ => 1_000_000,
+        _ => MAX_CAPACITY as usize,
     }
 }
 
@@ -39,7 +41,7 @@ fn capacity(v: usize, w: usize) -> u32 {
 
 // A node from 0 to last that is not a, where last is not 0.
 fn other_node(v: usize, a: usize, last: usize) -> usize
-    requires { ⌜ (a ≤ last) × (last < 64) ⌝ }
+    requires { ⌜ (a ≤ last) × (last < maxNodes) ⌝ }
     ensures { λ r. ⌜ r ≤ last ⌝ }
 {
     let b = draw(v, last);
@@ -54,8 +56,8 @@ fn other_node(v: usize, a: usize, last: usize) -> usize
 
 // How many links a network with this last node gets: none where it has one node.
 fn links(v: usize, last: usize, most: usize) -> usize
-    requires { ⌜ most ≤ 256 ⌝ }
-    ensures { λ r. ⌜ r ≤ 256 ⌝ }
+    requires { ⌜ most ≤ maxLinks ⌝ }
+    ensures { λ r. ⌜ r ≤ maxLinks ⌝ }
 {
     if last == 0 {
         return 0;
@@ -86,7 +88,7 @@ fn put_link(
 
 // A network whose nodes are 0 to last, with m links.
 fn with_links(v: usize, last: usize, m: usize) -> Drawn
-    requires { ⌜ last < 64 ⌝ }
+    requires { ⌜ last < maxNodes ⌝ }
 {
     let mut state = next(v);
     let size = state;
@@ -124,7 +126,7 @@ fn with_links(v: usize, last: usize, m: usize) -> Drawn
 
 // A network of at most last + 1 nodes and at most `most` links, by the state v.
 pub fn draw_network(v: usize, last: usize, most: usize) -> Drawn
-    requires { ⌜ (last < 64) × (most ≤ 256) ⌝ }
+    requires { ⌜ (last < maxNodes) × (most ≤ maxLinks) ⌝ }
 {
     let w = next(v);
     let x = next(w);

@@ -9,6 +9,8 @@ pub struct Tally {
     pub calls: u64,
     pub pairs: u64,
     pub wrong: u64,
+    // bit e for each number e that a call was answered with
+    pub numbers: u32,
 }
 
 pub fn nothing() -> Tally {
@@ -19,6 +21,7 @@ pub fn nothing() -> Tally {
         calls: 0,
         pairs: 0,
         wrong: 0,
+        numbers: 0,
     }
 }
 
@@ -49,8 +52,9 @@ pub fn count_list(t: Tally, right: bool) -> Tally {
     next
 }
 
-pub fn count_call(t: Tally, right: bool) -> Tally {
+pub fn count_call(t: Tally, number: u32, right: bool) -> Tally {
     let mut next = judged(t, right);
+    next.numbers = t.numbers | (1u32 << (number % 32));
     next.calls = wrapping_add_u64(t.calls, 1);
     next
 }
@@ -81,4 +85,20 @@ pub fn print(name: &[u8], t: Tally) {
     io::write_all(STDOUT_FILENO, b" ");
     io::print_decimal(STDOUT_FILENO, t.wrong);
     io::write_all(STDOUT_FILENO, b" disagreements\n");
+}
+
+fn print_number(numbers: u32, e: u32) {
+    if (numbers >> (e % 32)) % 2 == 1 {
+        io::write_all(STDOUT_FILENO, b" ");
+        io::print_decimal(STDOUT_FILENO, e as u64);
+    }
+}
+
+// The refusal numbers that came.
+pub fn print_refusals(t: Tally) {
+    io::write_all(STDOUT_FILENO, b"refusals");
+    for e in 1..32 {
+        print_number(t.numbers, e);
+    }
+    io::write_all(STDOUT_FILENO, b"\n");
 }

@@ -1,18 +1,17 @@
--- `balance_of` is safe and ends: a network has at most 256 links.
+-- `balance_of` is safe and ends.
 use borrow.Author.Needs.{needs}
 use Prim.Native.Nat.{_-_, _≤_, _<_}
-use Rattle.network.specs.NetworkLaws.{links-le}
 use Rattle.trials.proofs.lawful.balance_of.Statement.{statement}
 use Rattle.trials.proofs.lawful.balance_of.Tie as tie
 
 abbrev Inv-loop : tie.InvT-loop
-Inv-loop net flow m leaves₀ enters₀ within₀ k₀ leaves enters within k = (k ≤ m) × (m ≤ 256)
+Inv-loop net flow m leaves₀ enters₀ within₀ k₀ leaves enters within k = k ≤ m
 
 abbrev μ-loop : tie.MeasureT-loop
 μ-loop net flow m leaves₀ enters₀ within₀ k₀ leaves enters within k = m - k
 
 loop-holds : tie.Need-loop-holds Inv-loop μ-loop
-loop-holds c = (search needs, links-le (c .args .t1) (c .pre))
+loop-holds c = search needs
 
 element-copy-out-a : tie.Need-element-copy-out-a Inv-loop μ-loop
 element-copy-out-a c = search needs

@@ -19,6 +19,9 @@ loop-holds c = search needs
 draw-network-requires : tie.Need-draw-network-requires Inv-loop μ-loop
 draw-network-requires c κs = search needs
 
+apart-requires : tie.Need-apart-requires Inv-loop μ-loop
+apart-requires c κs = search needs
+
 try-network-requires : tie.Need-try-network-requires Inv-loop μ-loop
 try-network-requires c κs = search needs
 
@@ -43,6 +46,7 @@ try-trees-spec =
     nothing-requires
     loop-holds
     draw-network-requires
+    apart-requires
     try-network-requires
     add-i
     loop-less
