@@ -1,0 +1,50 @@
+-- `same_text` is safe and ends.
+use borrow.Author.Needs.{needs}
+use Prim.Native.Nat.{_-_, _≤_, _<_}
+use Rattle.trials.proofs.headrooms.same_text.Statement.{statement}
+use Rattle.trials.proofs.headrooms.same_text.Tie as tie
+
+abbrev Inv-loop : tie.InvT-loop
+Inv-loop x y i₀ i = i ≤ 12
+
+abbrev μ-loop : tie.MeasureT-loop
+μ-loop x y i₀ i = 12 - i
+
+loop-holds : tie.Need-loop-holds Inv-loop μ-loop
+loop-holds c = search needs
+
+array-read-if1 : tie.Need-array-read-if1 Inv-loop μ-loop
+array-read-if1 c = search needs
+
+array-read-if1-2 : tie.Need-array-read-if1-2 Inv-loop μ-loop
+array-read-if1-2 c = search needs
+
+returns : tie.Need-returns Inv-loop μ-loop
+returns c = search needs
+
+add-i : tie.Need-add-i Inv-loop μ-loop
+add-i c = search needs
+
+loop-less : tie.Need-loop-less Inv-loop μ-loop
+loop-less c = search needs
+
+loop-again : tie.Need-loop-again Inv-loop μ-loop
+loop-again c = search needs
+
+returns-2 : tie.Need-returns-2 Inv-loop μ-loop
+returns-2 c = search needs
+
+pub same-text-spec : {M : Type 1} → statement M
+same-text-spec =
+    tie.close
+    (tie.spec
+    Inv-loop
+    μ-loop
+    loop-holds
+    array-read-if1
+    array-read-if1-2
+    returns
+    add-i
+    loop-less
+    loop-again
+    returns-2)

@@ -1,0 +1,24 @@
+// Compares the proved code with a trial of every side, on random networks and their changes. Each line counts what was compared, and the
+// disagreements.
+mod calls; // calls on a plan
+mod files; // network files
+mod flows; // least minimum cuts and flows
+mod headrooms; // headrooms and their text
+mod keeping; // which steps a change keeps
+mod lawful; // lawful flows
+mod machine; // the history as a plain machine
+mod pairs; // answers for pairs
+mod plans; // histories of plans
+mod random; // random networks
+mod same; // equal records
+mod sides; // a trial of every side
+mod tally; // counts
+mod trees; // trees and changes
+
+fn main() {
+    tally::print(b"flow", flows::try_flows(1000));
+    tally::print(b"tree", trees::try_trees(300));
+    let plans = plans::try_plans(100);
+    tally::print(b"plan", plans);
+    tally::print_refusals(plans);
+}
