@@ -1,14 +1,27 @@
+// Cut trees (document 01, "The tree" and "The plan and its changes"): built by Gusfield's rule, worked out again after a change, asked for a pair.
+mod keep; // which steps are kept, and a step's cut
+mod path; // the pair query, and whether a node reaches node 0
+mod rule; // one step of the rule
+mod trees; // build and rebuild
+
+pub use crate::path::MAX_CLIMB;
+pub use crate::path::query;
+pub use crate::path::reaches_root;
+pub use crate::trees::build;
+pub use crate::trees::rebuild;
+use network::MAX_NODES;
+
 // A cut tree: every node's parent, and the weight of the edge between them. Node 0 has parent 0 and weight 0.
 pub struct Tree {
-    pub parent: [u8; 64],
-    pub weight: [u32; 64],
+    pub parent: [u8; MAX_NODES],
+    pub weight: [u32; MAX_NODES],
 }
 
 // The steps that made a tree: for each node from 1 up its pivot, its least minimum cut and that cut's value.
 pub struct Steps {
-    pub pivot: [u8; 64],
-    pub side: [u64; 64],
-    pub value: [u32; 64],
+    pub pivot: [u8; MAX_NODES],
+    pub side: [u64; MAX_NODES],
+    pub value: [u32; MAX_NODES],
 }
 
 // A tree, its steps, and how many of the steps were not kept.

@@ -1,11 +1,10 @@
--- Laws of cut values: submodularity, posimodularity, complement; they depend on a side's values at ends only.
-use mathlib.Core.Path.{_≡_, refl, sym, ap, ap₂, subst, _∙_}
-use mathlib.Core.Logic.{_≢_}
-use mathlib.Core.Bool.{Bool, true, false, not, _&&_, _||_, cond, true≢false}
-use Prim.Native.Nat.{ℕ, zero, suc, _+_, _-_, _*_, _^_, _/_, _%_, _≤_, _<_, min}
+-- Laws of cut values: submodularity, posimodularity, the complement; a cut value depends on the links' ends only.
+use mathlib.Core.Path.{_≡_, refl, ap, _∙_}
+use mathlib.Core.Bool.{Bool, true, false, not, _&&_, _||_}
+use Prim.Native.Nat.{ℕ, _+_, _≤_, _<_}
 use native.Mathlib.Omega.{arith}
 use Rattle.min_cut.specs.Bools.{bool2, bool4}
-use Rattle.min_cut.specs.Sum.{sum, sum-ext, sum-le2}
+use Rattle.min_cut.specs.Sum.{sum-ext, sum-le2}
 use Rattle.min_cut.specs.Cut.{Net, Side, crossing, cutValue, _∩_, _∪_, _∖_, complement, MinCut, Within}
 
 crossing-submodular : (c : ℕ) (x y u v : Bool) → crossing (x && u) (y && v) c + crossing (x || u) (y || v) c ≤ crossing x y c + crossing u v c

@@ -1,8 +1,8 @@
 -- What the invariant says once every node is placed: a subtree is a minimum cut, and a side that separates two nodes crosses a tree edge between them.
-use mathlib.Core.Path.{_≡_, refl, sym, ap, ap₂, subst, _∙_, fun-ext}
+use mathlib.Core.Path.{_≡_, refl, sym, ap, subst, _∙_, fun-ext}
 use mathlib.Core.Logic.{_≢_}
-use mathlib.Core.Bool.{Bool, true, false, not, _&&_, _||_, cond, true≢false}
-use Prim.Native.Nat.{ℕ, zero, suc, _+_, _-_, _*_, _^_, _/_, _%_, _≤_, _<_, min}
+use mathlib.Core.Bool.{Bool, true, false, not, true≢false}
+use Prim.Native.Nat.{ℕ, zero, suc, _+_, _≤_, _<_}
 use native.Mathlib.Omega.{arith}
 use native.Mathlib.Decide.{ℕ-discrete, decLe}
 use Rattle.min_cut.specs.Cut.{Net, Side, cutValue, MinCut}
@@ -42,7 +42,7 @@ not-own false e = true≢false (sym e)
 
 module _ (G : Net) (i : ℕ) (p w : ℕ → ℕ) (Z : ℕ → Side) (r : ℕ → ℕ) (T : Tree G i p w Z r) where
   -- what stands below y ranks above it
-  deeper : (q y x : ℕ) → r x < q → 0 < y → y < i → x ≢ y → r x ≤ r y → Z y x ≡ false
+  pub deeper : (q y x : ℕ) → r x < q → 0 < y → y < i → x ≢ y → r x ≤ r y → Z y x ≡ false
   deeper zero y x h l m n d = absurd (omega arith)
   deeper (suc q) y x h l m n d = go (ℕ-discrete x 0) (λ a b. deeper q y (p x) a l m b)
     where
@@ -95,7 +95,7 @@ module _ (G : Net) (i : ℕ) (p w : ℕ → ℕ) (Z : ℕ → Side) (r : ℕ →
       go (yes a) (yes b) = absurd (omega arith)
       go (yes a) (no b) = absurd (omega (arith, ap r a, T .rank v (omega arith), root-low (suc (r (p v))) (p v) (omega arith)))
 
-  edge : (W : Side) (q u v : ℕ) → r u + r v < q → u < i → v < i → W u ≡ not (W v) → Edge W u v
+  pub edge : (W : Side) (q u v : ℕ) → r u + r v < q → u < i → v < i → W u ≡ not (W v) → Edge W u v
   edge W zero u v h a b e = absurd (omega arith)
   edge W (suc q) u v h a b e = go (decLe (r v) (r u)) (λ x y. edge W q x y)
     where

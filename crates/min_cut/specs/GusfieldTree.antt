@@ -1,26 +1,14 @@
 -- Gusfield's tree: the invariant of its steps, and where a step sends each node.
-use mathlib.Core.Path.{_≡_, refl, sym, ap, ap₂, subst, _∙_}
+use mathlib.Core.Path.{_≡_, refl, ap, subst, _∙_}
 use mathlib.Core.Logic.{_≢_}
-use mathlib.Core.Bool.{Bool, true, false, not, _&&_, _||_, cond, true≢false}
-use Prim.Native.Nat.{ℕ, zero, suc, _+_, _-_, _*_, _^_, _/_, _%_, _≤_, _<_, min}
+use mathlib.Core.Bool.{Bool, true, false, _&&_, cond}
+use Prim.Native.Nat.{ℕ, _<_}
 use native.Mathlib.Omega.{arith}
 use native.Mathlib.Decide.{ℕ-discrete}
 use lib.Dec.{eqb}
 use borrow.Author.Tests.{eq-eqb, ne-eqb}
 use Rattle.min_cut.specs.Bools.{bool1}
 use Rattle.min_cut.specs.Cut.{Net, Side, cutValue, MinCut}
-
--- f with v at k
-unfoldable pub put {ℓ} : {A : Type ℓ} → (ℕ → A) → ℕ → A → ℕ → A
-put f k v i = cond (eqb i k) v (f i)
-
-pub put-same {ℓ} : {A : Type ℓ} (f : ℕ → A) (k : ℕ) (v : A) → put f k v k ≡ v
-unfolding put
-put-same f k v = rw (eq-eqb k k refl)
-
-pub put-other {ℓ} : {A : Type ℓ} (f : ℕ → A) (k : ℕ) (v : A) (i : ℕ) → i ≢ k → put f k v i ≡ f i
-unfolding put
-put-other f k v i n = rw (ne-eqb i k n)
 
 -- the tree of the nodes below i: p x is x's parent, Z y the side below y, a minimum cut between y and p y, w y its value, r a rank
 pub record Tree (G : Net) (i : ℕ) (p w : ℕ → ℕ) (Z : ℕ → Side) (r : ℕ → ℕ) : Type 0 where
@@ -47,6 +35,14 @@ start G w Z = record {
   minimum = λ y l m. absurd (omega arith);
   weight = λ y l m. absurd (omega arith);
 }
+
+-- a pivot is placed, and what stands below it is in its side
+module _ (G : Net) (i : ℕ) (p w : ℕ → ℕ) (Z : ℕ → Side) (r : ℕ → ℕ) (T : Tree G i p w Z r) (t : ℕ) (et : p i ≡ t) where
+  pub pivot-lt : t < i
+  pivot-lt = subst (λ k. k < i) et (T .done i)
+
+  pub pivot-below : 0 < t → (x : ℕ) → 0 < x → p x ≡ t → x ≢ t → Z t x ≡ true
+  pivot-below l x xl e n = T .down t x l pivot-lt xl n ∙ ap (Z t) e ∙ T .minimum t l pivot-lt .inside
 
 -- where x goes as s is put beside t: the neighbours of t in X go to s
 pub data Goes (p p′ : ℕ → ℕ) (X : Side) (s t x : ℕ) : Type 0 where

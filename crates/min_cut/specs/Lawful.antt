@@ -5,6 +5,7 @@ use mathlib.Core.Logic.{_≢_}
 use mathlib.Core.Bool.{Bool, true, false}
 use lib.Dec.{eqb}
 use lib.IntN.{ℤ, pos, natAbs, _+ℤ_, _-ℤ_}
+use lib.Signed.{_≤ℤ_}
 use Rattle.min_cut.specs.Cut.{Net}
 
 -- z at an end that is the node asked for
@@ -25,3 +26,9 @@ pub record Lawful (G : Net) (n s t : ℕ) (f : ℕ → ℤ) : Type 0 where
 -- what leaves s less what enters s
 unfoldable pub total : Net → (ℕ → ℤ) → ℕ → ℤ
 total G f s = outflow G f s (G .m)
+
+-- a lawful flow of total v, and no lawful flow has a larger total
+pub record MaximumFlow (G : Net) (n s t v : ℕ) (f : ℕ → ℤ) : Type 0 where
+  pub lawful : Lawful G n s t f
+  pub value : total G f s ≡ pos v
+  pub greatest : (g : ℕ → ℤ) → Lawful G n s t g → total G g s ≤ℤ pos v

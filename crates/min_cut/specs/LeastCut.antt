@@ -1,25 +1,21 @@
 -- The least minimum cut is a minimum cut among all sides, is contained in every other, and is the only word that is both.
-use mathlib.Core.Path.{_≡_, refl, sym, ap, ap₂, subst, _∙_}
+use mathlib.Core.Path.{_≡_, refl, sym, ap, _∙_}
 use mathlib.Core.Logic.{_≢_}
-use mathlib.Core.Bool.{Bool, true, false, not, _&&_, _||_, cond, true≢false}
-use Prim.Native.Nat.{ℕ, zero, suc, _+_, _-_, _*_, _^_, _/_, _%_, _≤_, _<_, min}
+use mathlib.Core.Bool.{true, false, true≢false}
+use Prim.Native.Nat.{ℕ, _^_, _≤_, _<_}
 use native.Mathlib.Omega.{arith}
 use native.Mathlib.Decide.{decLt}
 use lib.Pow.{pow-pos}
 use lib.Dec.{eqb}
 use borrow.Author.Tests.{eq-eqb, ne-eqb}
+use Rattle.min_cut.specs.Bools.{and-both, and-not-both}
 use Rattle.min_cut.specs.Cut.{Net, Side, cutValue, _∩_, _⊆_, MinCut, LeastMinCut, Within}
 use Rattle.min_cut.specs.CutLaws.{cutValue-ext, meet-minimum}
-use Rattle.min_cut.specs.Word.{holds, word, first, between, leastMinCut}
+use Rattle.min_cut.specs.Word.{holds, word, between, leastMinCut}
 use Rattle.min_cut.specs.WordLaws.{First, first-is, first-lt, inside-le, word-lt, word-holds, holds-out}
 
-both-true : (x y : Bool) → x && not y ≡ true → (x ≡ true) × (y ≡ false)
-both-true true true e = (refl, sym e)
-both-true true false e = (refl, refl)
-both-true false y e = (e, absurd (true≢false (sym e)))
-
 module _ (n : ℕ) (G : Net) (s t : ℕ) (w : Within G n) (sl : s < n) (tl : t < n) (d : s ≢ t) where
-  -- a word between s and t that costs what X does
+  -- the word of a side between s and t, of the same value, is one that the search meets
   word-first : (X : Side) → X s ≡ true → X t ≡ false → First (between s t) (λ w. cutValue G (holds w)) (word n X) (leastMinCut n G s t)
   unfolding leastMinCut
   word-first X i o = first-is (between s t) (λ w. cutValue G (holds w)) (2 ^ n) (word n X) (word-lt n X) (simp (word-holds n X s sl, word-holds n X t tl, i, o))
@@ -27,19 +23,19 @@ module _ (n : ℕ) (G : Net) (s t : ℕ) (w : Within G n) (sl : s < n) (tl : t <
   word-value : (X : Side) → cutValue G (holds (word n X)) ≡ cutValue G X
   word-value X = cutValue-ext G n w (holds (word n X)) X (word-holds n X)
 
-  one-fine : between s t (leastMinCut n G s t) ≡ true
-  one-fine = word-first (λ i. eqb i s) (eq-eqb s s refl) (ne-eqb t s (λ e. d (sym e))) .fine
+  leastMinCut-between : between s t (leastMinCut n G s t) ≡ true
+  leastMinCut-between = word-first (λ i. eqb i s) (eq-eqb s s refl) (ne-eqb t s (λ e. d (sym e))) .fine
 
   pub leastMinCut-minimum : MinCut G s t (holds (leastMinCut n G s t))
   leastMinCut-minimum =
-      let e = both-true (holds (leastMinCut n G s t) s) (holds (leastMinCut n G s t) t) one-fine in
+      let e = and-not-both (holds (leastMinCut n G s t) s) (holds (leastMinCut n G s t) t) leastMinCut-between in
       record { inside = e .0; outside = e .1; least = λ X i o. omega (arith, word-first X i o .least, word-value X) }
 
   pub leastMinCut-lt : leastMinCut n G s t < 2 ^ n
   unfolding leastMinCut
   leastMinCut-lt = first-lt (between s t) (λ w. cutValue G (holds w)) (2 ^ n) (pow-pos n)
 
-  -- a cheapest side that lies in every cheapest side is the first cheapest word's
+  -- a minimum cut that lies in every other is the least one's word
   pub leastMinCut-is : (R : Side) → MinCut G s t R → ((Y : Side) → MinCut G s t Y → R ⊆ Y) → leastMinCut n G s t ≡ word n R
   leastMinCut-is R r h =
       let f : First (between s t) (λ w. cutValue G (holds w)) (word n R) (leastMinCut n G s t) = word-first R (r .inside) (r .outside) in
@@ -58,10 +54,6 @@ module _ (n : ℕ) (G : Net) (s t : ℕ) (w : Within G n) (sl : s < n) (tl : t <
       let f : First (between s t) (λ w. cutValue G (holds w)) a b = first-is (between s t) (λ w. cutValue G (holds w)) (2 ^ n) a l (simp (r .inside, r .outside)) in
       let e : cutValue G (holds a) ≤ cutValue G (holds b) = r .least (holds b) (leastMinCut-minimum .inside) (leastMinCut-minimum .outside) in
       omega (arith, f .early e, inside-le n a b l (h b leastMinCut-lt leastMinCut-minimum))
-
-and-both : (a b : Bool) → a && b ≡ true → (a ≡ true) × (b ≡ true)
-and-both true b e = (refl, e)
-and-both false b e = absurd (true≢false (sym e))
 
 module _ (n : ℕ) (G : Net) (s t : ℕ) (w : Within G n) (sl : s < n) (tl : t < n) (d : s ≢ t) where
   pub leastMinCut-contained : (Y : Side) → MinCut G s t Y → holds (leastMinCut n G s t) ⊆ Y

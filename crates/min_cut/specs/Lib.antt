@@ -1,5 +1,6 @@
 pub mod Bools
 pub mod Sum
+pub mod Put
 pub mod Cut
 pub mod CutLaws
 pub mod Word
@@ -7,8 +8,15 @@ pub mod WordLaws
 pub mod LeastCut
 pub mod Residual
 pub mod Lawful
+pub mod IntParts
+pub mod OutflowLaws
+pub mod MaxFlow
+pub mod Augment
+pub mod StrongDuality
 pub mod Arcs
 pub mod Uncross
 pub mod GusfieldTree
+pub mod GusfieldUncross
 pub mod GusfieldStep
 pub mod GusfieldPairs
+pub mod Examples

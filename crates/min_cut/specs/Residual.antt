@@ -1,33 +1,36 @@
 -- Flows in residual form: each link has two residual capacities (document 01: spare capacities), one each way.
 -- The invariant of a flow for every side, its start, one push, composition; weak duality; what a closed set of reached nodes gives.
-use mathlib.Core.Path.{_≡_, refl, sym, ap, ap₂, subst, _∙_}
+use mathlib.Core.Path.{_≡_}
 use mathlib.Core.Logic.{_≢_}
-use mathlib.Core.Bool.{Bool, true, false, not, _&&_, _||_, cond, true≢false}
-use Prim.Native.Nat.{ℕ, zero, suc, _+_, _-_, _*_, _^_, _/_, _%_, _≤_, _<_, min}
+use mathlib.Core.Bool.{Bool, true, false}
+use Prim.Native.Nat.{ℕ, _+_, _≤_, _<_}
 use native.Mathlib.Omega.{arith}
 use native.Mathlib.Decide.{ℕ-discrete}
 use Rattle.min_cut.specs.Bools.{bool1, bool2}
 use Rattle.min_cut.specs.Sum.{sum, sum-ext, sum-zero, sum-term, sum-at}
 use Rattle.min_cut.specs.Cut.{Net, Side, crossing, cutValue, _⊆_, MinCut}
 
--- what may still be sent out of the side by a link with the spares p (a to b) and q (b to a)
+-- what may still be sent out of the side by a link with the residual capacities p (a to b) and q (b to a)
 abbrev pub leaving : Bool → Bool → ℕ → ℕ → ℕ
 leaving true true p q = 0
 leaving true false p q = p
 leaving false true p q = q
 leaving false false p q = 0
 
+-- v where the Bool holds
 abbrev pub when : Bool → ℕ → ℕ
 when true v = v
 when false v = 0
 
+-- the residual capacity that leaves a side
 unfoldable pub residual : Net → (p q : ℕ → ℕ) → Side → ℕ
 residual G p q X = sum (G .m) (λ k. leaving (X (G .a k)) (X (G .b k)) (p k) (q k))
 
+-- no link lets anything out of the side
 abbrev pub Closed : Net → (p q : ℕ → ℕ) → Side → Type 0
 Closed G p q X = (k : ℕ) → k < G .m → leaving (X (G .a k)) (X (G .b k)) (p k) (q k) ≡ 0
 
--- a flow of v from s to t
+-- a flow of v from s to t: of every side the residual capacity is less than the cut value by what the flow sends out of it
 abbrev pub ResidualFlow : Net → (s t v : ℕ) → (p q : ℕ → ℕ) → Type 0
 ResidualFlow G s t v p q = (X : Side) → residual G p q X + when (X s) v ≡ cutValue G X + when (X t) v
 
@@ -35,7 +38,7 @@ ResidualFlow G s t v p q = (X : Side) → residual G p q X + when (X s) v ≡ cu
 abbrev pub Pushed : Net → (u w d : ℕ) → (p q p′ q′ : ℕ → ℕ) → Type 0
 Pushed G u w d p q p′ q′ = (X : Side) → residual G p′ q′ X + when (X u) d ≡ residual G p q X + when (X w) d
 
--- the spares of link k, and of no other, are x and y in place of p k and q k
+-- only the residual capacities of link k change
 pub record At (k : ℕ) (p q p′ q′ : ℕ → ℕ) : Type 0 where
   pub p-other : (i : ℕ) → i ≢ k → p′ i ≡ p i
   pub q-other : (i : ℕ) → i ≢ k → q′ i ≡ q i
@@ -71,10 +74,11 @@ module _ (G : Net) where
   when-add : (v d : ℕ) (x : Bool) → when x (v + d) ≡ when x v + when x d
   when-add v d = bool1 _ (omega arith)
 
+  -- a flow of v and d more
   pub more : (s t v d : ℕ) (p q p′ q′ : ℕ → ℕ) → ResidualFlow G s t v p q → Pushed G s t d p q p′ q′ → ResidualFlow G s t (v + d) p′ q′
   more s t v d p q p′ q′ h g X = omega (arith, h X, g X, when-add v d (X s), when-add v d (X t))
 
-  -- what is residual of a side between s and t is what its cutValue has over the flow
+  -- of a side between s and t the cut value is over the flow by its residual capacity
   pub over : (s t v : ℕ) (p q : ℕ → ℕ) → ResidualFlow G s t v p q → (X : Side) → X s ≡ true → X t ≡ false → residual G p q X + v ≡ cutValue G X
   over s t v p q h X i o = omega (arith, rw (i, o) at (h X))
 
@@ -90,6 +94,7 @@ module _ (G : Net) where
   residual-closed p q X e k l = omega (arith, sum-term (G .m) (λ k. leaving (X (G .a k)) (X (G .b k)) (p k) (q k)) k l)
 
   module _ (s t v : ℕ) (p q : ℕ → ℕ) (h : ResidualFlow G s t v p q) (R : Side) (i : R s ≡ true) (o : R t ≡ false) (closed : Closed G p q R) where
+    -- a closed side between s and t is full: a minimum cut, and the least one if it lies in every closed side of s
     pub full : cutValue G R ≡ v
     full = omega (arith, over s t v p q h R i o, closed-residual p q R closed)
 
@@ -99,7 +104,7 @@ module _ (G : Net) where
     pub full-least : ((Y : Side) → Closed G p q Y → Y s ≡ true → R ⊆ Y) → (Y : Side) → MinCut G s t Y → R ⊆ Y
     full-least r Y y = r Y (residual-closed p q Y (omega (arith, full, y .least R i o, over s t v p q h Y (y .inside) (y .outside)))) (y .inside)
 
--- a push keeps the two spares' sum
+-- a push keeps the sum of a link's two residual capacities
 pub kept : (k d : ℕ) (p q p′ q′ : ℕ → ℕ) → At k p q p′ q′ → p′ k + d ≡ p k → q′ k ≡ q k + d → (i : ℕ) → p′ i + q′ i ≡ p i + q i
 kept k d p q p′ q′ h e f i = go (ℕ-discrete i k)
   where

@@ -1,16 +1,16 @@
 -- Uncrossing: minimum cuts towards one node made to nest, grafted or lifted; the three-point inequality.
-use mathlib.Core.Path.{_≡_, refl, sym, ap, ap₂, subst, _∙_, fun-ext}
-use mathlib.Core.Logic.{_≢_}
-use mathlib.Core.Bool.{Bool, true, false, not, _&&_, _||_, cond, true≢false}
-use Prim.Native.Nat.{ℕ, zero, suc, _+_, _-_, _*_, _^_, _/_, _%_, _≤_, _<_, min}
+use mathlib.Core.Path.{_≡_, refl, fun-ext}
+use mathlib.Core.Bool.{Bool, true, false, not, _&&_, _||_, cond}
+use Prim.Native.Nat.{ℕ, _≤_, min}
 use native.Mathlib.Omega.{arith}
-use Rattle.min_cut.specs.Bools.{bool1, bool2}
+use Rattle.min_cut.specs.Bools.{bool1, bool2, and-both, and-not-both}
 use Rattle.min_cut.specs.Cut.{Net, Side, cutValue, _∩_, _∪_, _∖_, complement, _⊆_, Separates, MinCut, LeastMinCut}
 use Rattle.min_cut.specs.CutLaws.{submodular, posimodular, cutValue-complement}
 
+-- N is a minimum cut of j towards t without s, X one of s: with N, where X holds j, or without N, X stays a minimum cut
 module _ (G : Net) (j s t : ℕ) (N X : Side) (n : MinCut G j t N) (away : N s ≡ false) (x : MinCut G s t X) where
-  pub joined : X j ≡ true → MinCut G s t (X ∪ N)
-  joined e =
+  pub joined-minimum : X j ≡ true → MinCut G s t (X ∪ N)
+  joined-minimum e =
       let i : (X ∪ N) s ≡ true = simp (x .inside) in
       let o : (X ∪ N) t ≡ false = simp (x .outside, n .outside) in
       let ji : (X ∩ N) j ≡ true = simp (e, n .inside) in
@@ -18,8 +18,8 @@ module _ (G : Net) (j s t : ℕ) (N X : Side) (n : MinCut G j t N) (away : N s �
       let le : cutValue G (X ∪ N) ≤ cutValue G X = omega (arith, submodular G X N, n .least (X ∩ N) ji jo) in
       record { inside = i; outside = o; least = λ Y yi yo. omega (arith, le, x .least Y yi yo) }
 
-  pub lessened : X j ≡ false → MinCut G s t (X ∖ N)
-  lessened e =
+  pub difference-minimum : X j ≡ false → MinCut G s t (X ∖ N)
+  difference-minimum e =
       let i : (X ∖ N) s ≡ true = simp (x .inside, away) in
       let o : (X ∖ N) t ≡ false = simp (x .outside) in
       let ji : (N ∖ X) j ≡ true = simp (e, n .inside) in
@@ -37,6 +37,7 @@ third true y false e f g = f refl
 third false y true e f g = f refl
 third false y false e f g = g e
 
+-- of three nodes: a side between the first and the last separates one of the pairs beside
 pub three : (G : Net) (j t s v w : ℕ) → Floor G j t v → Floor G t s w → Floor G j s (min v w)
 three G j t s v w hv hw X e = third (X j) (X s) (X t) e (λ p. omega (arith, hv X p)) (λ p. omega (arith, hw X p))
 
@@ -68,8 +69,8 @@ pub uncrossed-minimum : (G : Net) (j s t : ℕ) (N X : Side) → MinCut G j t N 
 uncrossed-minimum G j s t N X n a x = go (X j) refl
   where
     go : (b : Bool) → X j ≡ b → MinCut G s t (uncrossed X N j)
-    go true e = rw (uncrossed-true X N j e) (joined G j s t N X n a x e)
-    go false e = rw (uncrossed-false X N j e) (lessened G j s t N X n a x e)
+    go true e = rw (uncrossed-true X N j e) (joined-minimum G j s t N X n a x e)
+    go false e = rw (uncrossed-false X N j e) (difference-minimum G j s t N X n a x e)
 
 -- a neighbour y of t that X takes along with s becomes a neighbour of s
 pub graft : (G : Net) (y s t : ℕ) (N X : Side) → MinCut G y t N → N s ≡ false → MinCut G s t X → X y ≡ true → MinCut G y s N
@@ -87,7 +88,7 @@ lift G u s t N X n a x e = record { inside = a; outside = n .outside; least = λ
     go W i o true q = n .least W q o
     go W i o false q = omega (arith, n .least (complement X) (simp (x .outside)) (simp e), cutValue-complement G X, x .least W i q)
 
--- the least side of s lies in a cheapest side of j, towards the same t, that holds s
+-- the least minimum cut of s lies in a minimum cut of j, towards the same t, that holds s
 pub nested : (G : Net) (j s t : ℕ) (N X : Side) → MinCut G j t N → N s ≡ true → LeastMinCut G s t X → X ⊆ N
 nested G j s t N X n e x i h =
     let c = x .minimum in
@@ -96,17 +97,8 @@ nested G j s t N X n e x i h =
     let si : (X ∩ N) s ≡ true = simp (c .inside, e) in
     let so : (X ∩ N) t ≡ false = simp (c .outside) in
     let both : MinCut G s t (X ∩ N) = record { inside = si; outside = so; least = λ Y yi yo. omega (arith, submodular G X N, n .least (X ∪ N) ji jo, c .least Y yi yo) } in
-    and-right (X i) (N i) (x .contained (X ∩ N) both i h)
-  where
-    and-right : (a b : Bool) → a && b ≡ true → b ≡ true
-    and-right true b e = e
-    and-right false b e = absurd (true≢false (sym e))
+    and-both (X i) (N i) (x .contained (X ∩ N) both i h) .1
 
 -- and where neither holds the other's node they are disjoint
 pub disjoint : (G : Net) (j s t : ℕ) (N X : Side) → MinCut G j t N → N s ≡ false → LeastMinCut G s t X → X j ≡ false → (i : ℕ) → X i ≡ true → N i ≡ false
-disjoint G j s t N X n e x f i h = and-not (X i) (N i) (x .contained (X ∖ N) (lessened G j s t N X n e (x .minimum) f) i h)
-  where
-    and-not : (a b : Bool) → a && not b ≡ true → b ≡ false
-    and-not true true e = sym e
-    and-not true false e = refl
-    and-not false b e = absurd (true≢false (sym e))
+disjoint G j s t N X n e x f i h = and-not-both (X i) (N i) (x .contained (X ∖ N) (difference-minimum G j s t N X n e (x .minimum) f) i h) .1

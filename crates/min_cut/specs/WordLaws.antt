@@ -1,8 +1,7 @@
--- Laws of words as sides and of the first least number.
-use mathlib.Core.Path.{_≡_, refl, sym, ap, ap₂, subst, _∙_}
-use mathlib.Core.Logic.{_≢_}
-use mathlib.Core.Bool.{Bool, true, false, not, _&&_, _||_, cond, true≢false}
-use Prim.Native.Nat.{ℕ, zero, suc, _+_, _-_, _*_, _^_, _/_, _%_, _≤_, _<_, min}
+-- Laws of words as sides, and of the first number at which a function is least.
+use mathlib.Core.Path.{_≡_, refl, sym, ap, _∙_}
+use mathlib.Core.Bool.{Bool, true, false, true≢false}
+use Prim.Native.Nat.{ℕ, zero, suc, _+_, _*_, _^_, _/_, _%_, _≤_, _<_}
 use native.Mathlib.Omega.{arith}
 use native.Mathlib.Decide.{ℕ-discrete}
 use native.Mathlib.Nat.{div-one}
@@ -14,6 +13,7 @@ use Rattle.min_cut.specs.Bools.{bool1}
 use Rattle.min_cut.specs.Cut.{Side}
 use Rattle.min_cut.specs.Word.{holds, bit, word, better, first}
 
+-- b is taken, no number w that is taken has a smaller value, and none of the same value stands before it
 pub record First (ok : ℕ → Bool) (f : ℕ → ℕ) (w b : ℕ) : Type 0 where
   pub fine : ok b ≡ true
   pub least : f b ≤ f w
@@ -53,8 +53,8 @@ unfolding first
 first-is ok f zero w l e = absurd (omega arith)
 first-is ok f (suc k) w l e = first-step ok f k (first ok f k) w e (first-le ok f k) l (λ m. first-is ok f k w m e) _ _ _ refl refl refl (ℕ-discrete w k)
 
-low : (a b : ℕ) → (eqb (a % 2) 1 ≡ true → eqb (b % 2) 1 ≡ true) → a % 2 ≤ b % 2
-low a b h = go (eqb (a % 2) 1) refl
+low-bit : (a b : ℕ) → (eqb (a % 2) 1 ≡ true → eqb (b % 2) 1 ≡ true) → a % 2 ≤ b % 2
+low-bit a b h = go (eqb (a % 2) 1) refl
   where
     go : (x : Bool) → eqb (a % 2) 1 ≡ x → a % 2 ≤ b % 2
     go true e = omega (arith, eqb-true (b % 2) 1 (h e))
@@ -64,7 +64,7 @@ low a b h = go (eqb (a % 2) 1) refl
 pub inside-le : (n a b : ℕ) → a < 2 ^ n → ((i : ℕ) → i < n → holds a i ≡ true → holds b i ≡ true) → a ≤ b
 unfolding holds
 inside-le zero a b l h = omega arith
-inside-le (suc n) a b l h = omega (arith, low a b (h 0 (omega arith)), inside-le n (a / 2) (b / 2) (omega arith) (λ i il. h (suc i) (omega arith)))
+inside-le (suc n) a b l h = omega (arith, low-bit a b (h 0 (omega arith)), inside-le n (a / 2) (b / 2) (omega arith) (λ i il. h (suc i) (omega arith)))
 
 pub same-bits : (n a b : ℕ) → a < 2 ^ n → b < 2 ^ n → ((i : ℕ) → i < n → holds a i ≡ holds b i) → a ≡ b
 same-bits n a b la lb h = omega (arith, inside-le n a b la (λ i l e. sym (h i l) ∙ e), inside-le n b a lb (λ i l e. h i l ∙ e))

@@ -1,6 +1,6 @@
 -- Small tools that the definitions of document 01 are written with.
 use Prim.Native.Nat.{ℕ, zero, suc}
-use mathlib.Core.Bool.{Bool, true, false, _&&_, cond}
+use mathlib.Core.Bool.{Bool, true, _&&_, cond}
 use mathlib.Core.List.{List, [], _∷_}
 use lib.ListN.{getD, drop}
 use lib.Dec.{eqb}

@@ -1,14 +1,16 @@
 -- Laws of the small tools: tests over all places, lists of tests, unused places.
-use mathlib.Core.Path.{_≡_, refl, sym, ap, ap₂, subst, _∙_}
+use mathlib.Core.Path.{_≡_, refl, sym, _∙_}
 use mathlib.Core.Logic.{_≢_}
-use mathlib.Core.Bool.{Bool, true, false, not, _&&_, _||_, cond, true≢false}
-use Prim.Native.Nat.{ℕ, zero, suc, _+_, _-_, _*_, _^_, _/_, _%_, _≤_, _<_, min}
+use mathlib.Core.Bool.{Bool, true, false, not, _&&_, true≢false, and-true}
+use Prim.Native.Nat.{ℕ, zero, suc, _+_, _≤_, _<_}
 use native.Mathlib.Omega.{arith}
 use mathlib.Core.List.{List, [], _∷_}
 use native.Mathlib.Decide.{ℕ-discrete}
-use lib.ListN.{drop, replicate}
+use lib.ListN.{length, drop, replicate, drop-of-length-le}
+use lib.Seq.{drop-cons}
 use lib.Dec.{eqb}
-use borrow.Author.Tests.{eqb-true}
+use native.Mathlib.Numerals.{add-one}
+use borrow.Author.Tests.{eqb-true, ne-eqb, not-true, not-false}
 use Rattle.network.specs.Basics.{at, all, every, blank}
 
 pub and-l : (x y : Bool) → x && y ≡ true → x ≡ true
@@ -36,6 +38,22 @@ unfolding all
 all-in zero f h = refl
 all-in (suc m) f h = both (all-in m f (λ i l. h i (omega arith))) (h m (omega arith))
 
+-- one more: what a loop over the places has after a turn
+pub all-none : (f : ℕ → Bool) → all 0 f ≡ true
+unfolding all
+all-none f = refl
+
+pub all-more : (k : ℕ) (f : ℕ → Bool) → all k f ≡ true → f k ≡ true → all (k + 1) f ≡ true
+unfolding all
+all-more k f h e = rw add-one (both h e)
+
+pub all-fails : (m : ℕ) (f : ℕ → Bool) (i : ℕ) → i < m → f i ≡ false → all m f ≡ false
+all-fails m f i l e = go (all m f) refl
+  where
+    go : (b : Bool) → all m f ≡ b → all m f ≡ false
+    go true h = absurd (true≢false (sym (all-at m f h i l) ∙ e))
+    go false h = h
+
 -- lists of tests: as data, so that antt finds the tests by itself
 infixr 67 _&_
 pub data Every : List Bool → Type 0 where
@@ -62,6 +80,25 @@ rest (e & h) = h
 pub keep : {x : Bool} {xs ys : List Bool} → (Every xs → Every ys) → Every (x ∷ xs) → Every (x ∷ ys)
 keep f (e & h) = e & f h
 
+-- a list of tests worked through in order, as code does: the first that fails settles it, and the last may be answered as it is
+pub data Settled : List Bool → Bool → Type 0 where
+  fail : {x : Bool} {xs : List Bool} → x ≡ false → Settled (x ∷ xs) false
+  pass : {x b : Bool} {xs : List Bool} → x ≡ true → Settled xs b → Settled (x ∷ xs) b
+  last : {x b : Bool} → b ≡ x → Settled (x ∷ []) b
+
+pub settled : {xs : List Bool} {b : Bool} → Settled xs b → b ≡ every xs
+unfolding every
+settled (fail e) = rw e
+settled (pass e s) = rw e (settled s)
+settled (last {x} e) = e ∙ sym (and-true x)
+
+-- a test that a function answered with r
+pub answered-no : {r x : Bool} → r ≡ x → not r ≡ true → x ≡ false
+answered-no e n = sym e ∙ not-true _ n
+
+pub answered-yes : {r x : Bool} → r ≡ x → not r ≡ false → x ≡ true
+answered-yes e n = sym e ∙ not-false _ n
+
 -- ---- unused places
 pub blank-suc : (d : ℕ) (xs : List ℕ) → blank (drop d xs) ≡ true → blank (drop (suc d) xs) ≡ true
 unfolding blank
@@ -76,6 +113,19 @@ blank-at zero [] e = refl
 blank-at zero (x ∷ xs) e = eqb-true x 0 (and-l (eqb x 0) (blank xs) e)
 blank-at (suc d) [] e = refl
 blank-at (suc d) (x ∷ xs) e = blank-at d xs e
+
+-- a loop over the places from n on: at its end, at a 0, at another number
+pub blank-end : (i : ℕ) (xs : List ℕ) → length xs ≤ i → blank (drop i xs) ≡ true
+unfolding blank
+blank-end i xs l = rw (drop-of-length-le xs l)
+
+pub blank-more : (i : ℕ) (xs : List ℕ) → i < length xs → at xs i ≡ 0 → blank (drop (i + 1) xs) ≡ blank (drop i xs)
+unfolding blank
+blank-more i xs l e = rw (drop-cons xs i 0 l, e, add-one)
+
+pub blank-fails : (i : ℕ) (xs : List ℕ) → i < length xs → at xs i ≢ 0 → blank (drop i xs) ≡ false
+unfolding blank
+blank-fails i xs l e = rw (drop-cons xs i 0 l, ne-eqb (at xs i) 0 e)
 
 pub blank-zeros : (n : ℕ) → blank (replicate n 0) ≡ true
 unfolding blank

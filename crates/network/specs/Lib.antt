@@ -5,3 +5,5 @@ pub mod Checks
 pub mod Network
 pub mod NetworkLaws
 pub mod Incidence
+pub mod IncidenceLaws
+pub mod Examples

@@ -1,5 +1,5 @@
 -- The numbers of document 01, each said once.
-use Prim.Native.Nat.{ℕ}
+use Prim.Native.Nat.{ℕ, _*_}
 
 -- nodes (the paper's houses) of a network
 abbrev pub maxNodes : ℕ
@@ -8,6 +8,10 @@ maxNodes = 64
 -- links of a network
 abbrev pub maxLinks : ℕ
 maxLinks = 256
+
+-- arcs of a network: each link there and back
+abbrev pub maxArcs : ℕ
+maxArcs = 2 * maxLinks
 
 -- a capacity, in tenths of a megabit per second
 abbrev pub maxCapacity : ℕ

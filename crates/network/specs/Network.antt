@@ -1,5 +1,5 @@
 -- "The network" of document 01: its limits, its cuts and its flows. The paper's house is a node here.
-use Prim.Native.Nat.{ℕ, _<_}
+use Prim.Native.Nat.{ℕ}
 use mathlib.Core.Path.{_≡_}
 use mathlib.Core.Bool.{Bool, true, not}
 use mathlib.Core.List.{List, [], _∷_}
@@ -14,15 +14,12 @@ use Rattle.network.specs.Limits.{maxNodes, maxLinks, maxCapacity}
 use Rattle.network.specs.declared.Network.{Network}
 
 -- ---- the limits
--- link k: both ends are nodes, they differ, and the capacity is not too high
+-- a link of a network of n nodes: both ends are nodes, they differ, and the capacity is not too high
+abbrev pub linkWithin : (n a b c : ℕ) → Bool
+linkWithin n a b c = every (ltb a n ∷ ltb b n ∷ not (eqb b a) ∷ leb c maxCapacity ∷ [])
+
 abbrev pub linkFits : Network → ℕ → Bool
-linkFits net k =
-    every (
-    ltb (at (net .a) k) (net .nodes)
-    ∷ ltb (at (net .b) k) (net .nodes)
-    ∷ not (eqb (at (net .b) k) (at (net .a) k))
-    ∷ leb (at (net .capacity) k) maxCapacity
-    ∷ [])
+linkFits net k = linkWithin (net .nodes) (at (net .a) k) (at (net .b) k) (at (net .capacity) k)
 
 unfoldable pub networkFits : Network → Bool
 networkFits net =

@@ -1,1 +1,5 @@
 pub mod Set
+pub mod BitLaws
+pub mod SetLaws
+pub mod SizeLaws
+pub mod Examples

@@ -1,0 +1,25 @@
+-- A kept step has room for the fall; any other cut is worked out.
+use mathlib.Core.Path.{sym, _∙_}
+use Rattle.cut_tree.specs.TakingLaws.{kept-room, took-kept, took-anew}
+use borrow.Author.Needs.{needs}
+use Rattle.cut_tree.proofs.keep.take.Statement.{statement}
+use Rattle.cut_tree.proofs.keep.take.Tie as tie
+
+keeps-requires : tie.Need-keeps-requires
+keeps-requires c κs = search needs
+
+kept-cut-requires : tie.Need-kept-cut-requires
+kept-cut-requires c κs = let k = c .before in kept-room _ _ _ (sym (k .keeps .ensures) ∙ c .if1 .taken)
+
+returns : tie.Need-returns
+returns c = took-kept _ _ _ _ _ _ (c .before .before .keeps .ensures) (c .before .if1 .taken) _ (c .kept-cut .ensures)
+
+least-cut-by-requires : tie.Need-least-cut-by-requires
+least-cut-by-requires c κs = c .before .before .pre .1
+
+returns-2 : tie.Need-returns-2
+returns-2 c = took-anew _ _ _ _ _ _ (c .before .before .keeps .ensures) (c .before .if1 .left) _ (c .least-cut-by .ensures)
+
+pub take-spec : {M : Type 1} → statement M
+take-spec =
+    tie.close (tie.spec keeps-requires kept-cut-requires returns least-cut-by-requires returns-2)

@@ -1,0 +1,79 @@
+-- Each return is a way through `climbTo`; the count that is left falls.
+use mathlib.Core.Path.{sym, _∙_}
+use native.Mathlib.Omega.{arith}
+use Rattle.cut_tree.specs.ClimbLaws.{inside-lt, inside-next, climbTo-end, climbTo-none, climbTo-stop, climbTo-on}
+use Rattle.cut_tree.specs.QueryLaws.{up-none, up-on, lighter-below}
+use Prim.Native.Nat.{ℕ, _<_}
+use borrow.Fn.Kinds.{In}
+use borrow.Fn.PlainCycle.{Measures, is, falls, and}
+use Rattle.cut_tree.proofs.path.lightest_up.Reads as this
+use Rattle.cut_tree.proofs.path.lightest_up.Kinds as kinds
+use Rattle.cut_tree.proofs.path.+lightest_up.Lts-lightest_up as lts
+use Rattle.cut_tree.proofs.path.lighter.Reads as lighter-reads
+use Rattle.node_set.proofs.contains.Reads as contains-reads
+use Rattle.cut_tree.proofs.path.+lightest_up.{statement}
+use Rattle.cut_tree.proofs.path.+lightest_up.Tie.{close}
+
+abbrev μ : Measures 2 kinds.ps ℕ
+μ κs a = a .1 .1 .0
+
+abbrev start : ℕ → In 2 kinds.ps
+start t = and 2 kinds.ps (is 2 kinds.ps μ t) this.Pre
+
+abbrev below : ℕ → In 2 kinds.ps
+below t = and 2 kinds.ps (falls 2 kinds.ps _<_ μ t) this.Pre
+
+abbrev claims : ℕ → lts.Claims
+claims t = (contains-reads.Asked, contains-reads.Learnt, lighter-reads.Asked, lighter-reads.Learnt, below t, this.Post)
+
+returns : (t : ℕ) → lts.Need-returns (claims t) (start t) this.Post
+returns t c = up-none _ _ _ (climbTo-end _ _ _ _ (c .if1 .taken))
+
+returns-2 : (t : ℕ) → lts.Need-returns-2 (claims t) (start t) this.Post
+returns-2 t c = up-none _ _ _ (climbTo-none _ _ _ _ (c .if2 .taken))
+
+contains-requires : (t : ℕ) → lts.Need-contains-requires (claims t) (start t) this.Post
+contains-requires t c κs = inside-lt (c .before .before .pre .1 .0)
+
+returns-3 : (t : ℕ) → lts.Need-returns-3 (claims t) (start t) this.Post
+returns-3 t c =
+    let e = c .before .before in
+    up-none _ _ _ (climbTo-stop _ _ _ _ (e .before .if1 .left) (sym (c .before .contains .ensures) ∙ c .if3 .taken))
+
+element-copy-out-up : (t : ℕ) → lts.Need-element-copy-out-up (claims t) (start t) this.Post
+element-copy-out-up t c = inside-lt (c .before .before .before .before .pre .1 .0)
+
+cast-up : (t : ℕ) → lts.Need-cast-up (claims t) (start t) this.Post
+cast-up t c = omega (arith, inside-lt (inside-next (c .before .before .before .before .before .pre .1 .0)))
+
+sub-lightest-up : (t : ℕ) → lts.Need-sub-lightest-up (claims t) (start t) this.Post
+sub-lightest-up t c = omega arith
+
+lighter-requires : (t : ℕ) → lts.Need-lighter-requires (claims t) (start t) this.Post
+lighter-requires t c κs =
+    let st = c .before .before .before .before .before in
+    (st .pre .1 .1, inside-lt (st .pre .1 .0))
+
+lightest-up-requires : (t : ℕ) → lts.Need-lightest-up-requires (claims t) (start t) this.Post
+lightest-up-requires t c κs =
+    let st = c .before .before .before .before .before .before in
+    (omega arith, (inside-next (st .pre .1 .0), omega (arith, c .lighter .ensures, lighter-below (st .args .weight .now) 64 (st .args .best) (st .args .i) (st .pre .1 .1) (inside-lt (st .pre .1 .0)))))
+
+returns-4 : (t : ℕ) → lts.Need-returns-4 (claims t) (start t) this.Post
+returns-4 t c =
+    let o = c .before .before .before in
+    let e = o .before .before in
+    up-on _ _ _ _ _ _ _ (climbTo-on _ _ _ _ (e .before .if1 .left) (sym (o .before .contains .ensures) ∙ o .if3 .left) (e .if2 .left)) (c .before .lighter .ensures) (c .lightest-up .ensures)
+
+pub +lightest-up-spec : {M : Type 1} → statement M
++lightest-up-spec = close μ λ t. lts.spec (claims t) (start t) this.Post
+    (returns t)
+    (returns-2 t)
+    (contains-requires t)
+    (returns-3 t)
+    (element-copy-out-up t)
+    (cast-up t)
+    (sub-lightest-up t)
+    (lighter-requires t)
+    (lightest-up-requires t)
+    (returns-4 t)

@@ -1,0 +1,72 @@
+-- What the contracts of a rebuild's parts cite; its own contract is `rebuilt`, and that of a first build `rule`. A step of the rule, and the
+-- keeping test on the numbers that the code hands about: a changed link and a recorded step, without the network and the arrays.
+use Prim.Native.Nat.{ℕ, _+_, _-_, _≤_, _<_}
+use mathlib.Core.Path.{_≡_}
+use mathlib.Core.Bool.{Bool, true, _&&_}
+use lib.Dec.{eqb}
+use Rattle.min_cut.specs.Cut.{differ}
+use Rattle.min_cut.specs.Word.{holds}
+use Rattle.network.specs.Basics.{pick, at}
+use Rattle.network.specs.Limits.{maxNodes, maxCapacity}
+use Rattle.network.specs.Network.{networkFits}
+use Rattle.network.specs.declared.Network.{Network}
+use Rattle.cut_tree.specs.Rule.{ruleBy, leastCut}
+use Rattle.cut_tree.specs.Rebuild.{survives}
+use Rattle.cut_tree.specs.declared.Steps.{Steps}
+use Rattle.cut_tree.specs.declared.Built.{Built}
+use Rattle.cut_tree.specs.declared.StepCut.{StepCut}
+use Rattle.cut_tree.specs.declared.keep.Change.{Change}
+use Rattle.cut_tree.specs.declared.keep.OldStep.{OldStep}
+
+-- ---- a step
+-- the parent p of a node of the side: s in place of t
+abbrev pub movedOne : (p s t : ℕ) → ℕ
+movedOne p s t = pick (eqb p t) s p
+
+-- a step that the code can take: of nodes, with a count that has room
+pub record StepReady (b : Built) (s t : ℕ) (x : StepCut) : Type 0 where
+  pub node : s < maxNodes
+  pub pivot : t < maxNodes
+  pub above : at (b .tree .parent) t < maxNodes
+  pub counted : b .count + x .anew < maxNodes
+
+-- ---- the keeping test
+-- link k of net goes to capacity d
+abbrev pub changeOf : Network → (k d : ℕ) → Change
+changeOf net k d = record { a = at (net .a) k; b = at (net .b) k; old = at (net .capacity) k; new = d }
+
+-- what is recorded of step s
+abbrev pub stepOf : Steps → ℕ → OldStep
+stepOf steps s = record { pivot = at (steps .pivot) s; side = at (steps .side) s; value = at (steps .value) s }
+
+-- the link's ends are nodes
+pub record OfNodes (h : Change) : Type 0 where
+  pub a : h .a < maxNodes
+  pub b : h .b < maxNodes
+
+unfoldable pub crossed : Change → OldStep → Bool
+crossed h o = differ (holds (o .side) (h .a)) (holds (o .side) (h .b))
+
+unfoldable pub survived : Change → OldStep → Bool
+survived h o = survives (crossed h o) (o .value) (h .old) (h .new)
+
+unfoldable pub keptBy : Change → OldStep → ℕ → Bool
+keptBy h o t = eqb (o .pivot) t && survived h o
+
+unfoldable pub keptCut : Change → OldStep → StepCut
+keptCut h o = record { side = o .side; value = o .value - (h .old - h .new); anew = 0 }
+
+-- ---- the tree
+-- a change that can be worked out: of a link of a network within the limits, to a capacity within them
+pub record Changes (net : Network) (k d : ℕ) : Type 0 where
+  pub fits : networkFits net ≡ true
+  pub link : k < net .links
+  pub capacity : d ≤ maxCapacity
+
+-- the recorded cut where it is kept, else the least minimum cut
+unfoldable pub taken : Network → Change → OldStep → (s t : ℕ) → StepCut
+taken net h o s t = pick (keptBy h o t) (keptCut h o) (leastCut net s t)
+
+-- the rule by the cuts so taken
+unfoldable pub workedOut : Network → Steps → Change → Built
+workedOut net steps h = ruleBy (λ s t. taken net h (stepOf steps s) s t) (net .nodes - 1)

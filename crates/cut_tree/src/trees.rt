@@ -1,0 +1,81 @@
+// The tree of a network, and the tree worked out again after a change of one capacity: one loop serves both.
+use crate::Built;
+use crate::Steps;
+use crate::keep::Change;
+use crate::keep::OldStep;
+use crate::keep::take;
+use crate::rule::step;
+use crate::rule::unbuilt;
+use max_flow::neighbours;
+use network::MAX_NODES;
+use network::Network;
+use network::incidence_of;
+ghost use mathlib.Core.Bool.{true};
+ghost use mathlib.Core.Path.{_≡_};
+ghost use Rattle.network.specs.Network.{networkFits};
+ghost use Rattle.cut_tree.specs.Rebuild.{rebuilt};
+ghost use Rattle.cut_tree.specs.RebuildParts.{OfNodes, Changes, workedOut};
+ghost use Rattle.cut_tree.specs.Rule.{rule};
+
+// A pivot that is no node.
+const NO_NODE: u8 = 255;
+
+// The tree of the rule on `net`, with the recorded steps that are kept. What the cuts share is made once.
+fn worked_out(net: Network, steps: Steps, h: Change) -> Built
+    requires { ⌜ (networkFits net ≡ true) × OfNodes h ⌝ }
+    ensures { λ r. ⌜ r ≡ workedOut net steps h ⌝ }
+{
+    let n = net.nodes;
+    let arcs = incidence_of(net);
+    let near = neighbours(net);
+    let mut b = unbuilt();
+    let mut s: usize = 1;
+    while s < n {
+        let tree = b.tree;
+        let t = tree.parent[s] as usize;
+        let o = OldStep {
+            pivot: steps.pivot[s] as usize,
+            side: steps.side[s],
+            value: steps.value[s],
+        };
+        let x = take(net, arcs, near, h, o, s, t);
+        b = step(b, s, t, x);
+        s += 1;
+    }
+    b
+}
+
+// The tree as link k of `net` goes to capacity d, by the recorded steps.
+pub fn rebuild(net: Network, steps: Steps, k: usize, d: u32) -> Built
+    requires { ⌜ Changes net k d ⌝ }
+    ensures { λ r. ⌜ r ≡ rebuilt net steps k d ⌝ }
+{
+    let mut new = net;
+    let h = Change {
+        a: new.a[k] as usize,
+        b: new.b[k] as usize,
+        old: new.capacity[k],
+        new: d,
+    };
+    new.capacity[k] = d;
+    worked_out(new, steps, h)
+}
+
+// The tree of a network: no step is kept of a record whose pivots are no nodes.
+pub fn build(net: Network) -> Built
+    requires { ⌜ networkFits net ≡ true ⌝ }
+    ensures { λ r. ⌜ r ≡ rule net ⌝ }
+{
+    let none = Steps {
+        pivot: [NO_NODE; MAX_NODES],
+        side: [0; MAX_NODES],
+        value: [0; MAX_NODES],
+    };
+    let same = Change {
+        a: 0,
+        b: 0,
+        old: 0,
+        new: 0,
+    };
+    worked_out(net, none, same)
+}

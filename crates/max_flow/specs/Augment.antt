@@ -1,0 +1,93 @@
+-- Augmenting: the residual capacities hold a flow from s to t all along, which grows until no search reaches t. What was reached then is the
+-- least minimum cut, and the flow's total is its value.
+use mathlib.Core.Path.{_≡_, refl, sym, ap, ap₂, _∙_}
+use mathlib.Core.Bool.{Bool, true, false}
+use mathlib.Core.List.{List, []}
+use Prim.Native.Nat.{ℕ, _+_, _-_, _*_, _<_, _≤_}
+use native.Mathlib.Omega.{arith}
+use lib.Dec.{eqb}
+use borrow.Author.Tests.{eq-eqb, ne-eqb}
+use Rattle.min_cut.specs.Word.{holds}
+use Rattle.min_cut.specs.Residual.{ResidualFlow, more, weak, full}
+use Rattle.min_cut.specs.Arcs.{reached-least, shut-closed}
+use Rattle.network.specs.Basics.{at}
+use Rattle.network.specs.Limits.{maxNodes, maxValue}
+use Rattle.network.specs.Network.{networkFits, graph, leastSide, minCutValue}
+use Rattle.network.specs.NetworkLaws.{nodes-le, ends-within, value-le}
+use Rattle.network.specs.declared.Network.{Network}
+use Rattle.max_flow.specs.LeastCut.{Endpoints, leastCutOf}
+use Rattle.max_flow.specs.Residuals.{ahead, back, fullResidual, Balanced}
+use Rattle.max_flow.specs.ResidualLaws.{full-balanced, full-flow}
+use Rattle.max_flow.specs.Search.{TreeFrom, Searched}
+use Rattle.max_flow.specs.SearchLaws.{contained}
+use Rattle.max_flow.specs.Push.{most, Sending, Sent}
+use Rattle.max_flow.specs.declared.search.SearchTree.{SearchTree}
+use Rattle.max_flow.specs.declared.Cut.{Cut}
+
+-- r holds a flow of v from s to t
+pub record Flowing (net : Network) (s t v : ℕ) (r : List (List ℕ)) : Type 0 where
+  pub balanced : Balanced net r
+  pub flow : ResidualFlow (graph net) s t v (ahead r) (back r)
+
+-- at the end
+pub record Augmented (net : Network) (s t : ℕ) (cut : Cut) (r : List (List ℕ)) : Type 0 where
+  pub least : cut ≡ leastCutOf net s t
+  pub flowing : Flowing net s t (minCutValue net s t) r
+
+module _ (net : Network) (s t : ℕ) (a : Endpoints net s t) where
+  pub flowing-start : (r : List (List ℕ)) → r ≡ fullResidual net → Flowing net s t 0 r
+  flowing-start r e = rw e (record { balanced = full-balanced net (a .fits); flow = full-flow net (a .fits) s t })
+
+  -- by the side of s alone
+  pub flow-le : (v : ℕ) (r : List (List ℕ)) → Flowing net s t v r → v ≤ maxValue
+  flow-le v r f =
+      omega (
+        arith,
+        weak (graph net) s t v (ahead r) (back r) (f .flow) (λ i. eqb i s) (eq-eqb s s refl) (ne-eqb t s (λ e. a .apart (sym e))),
+        value-le net (a .fits) (λ i. eqb i s),
+      )
+
+  pub ends-lt : (s < maxNodes) × (t < maxNodes)
+  ends-lt = (omega (arith, a .source, nodes-le net (a .fits)), omega (arith, a .sink, nodes-le net (a .fits)))
+
+  module _ (v : ℕ) (r : List (List ℕ)) (f : Flowing net s t v r) (w : SearchTree) (o : Searched net r s t w) where
+    pub sending : Sending net s r w
+    sending = record { fits = a .fits; balanced = f .balanced; tree = o .tree }
+
+    -- t is reached
+    module _ (q : holds (w .reached) t ≡ true) (d : ℕ) (r' : List (List ℕ)) (p : Sent net s r w d r') where
+      pub flowing-more : Flowing net s t (v + d) r'
+      flowing-more =
+          record {
+            balanced = p .balanced;
+            flow = more (graph net) s t v d (ahead r) (back r) (ahead r') (back r') (f .flow) (rw (o .hit q) at (p .pushed));
+          }
+
+      pub more-le : v + d ≤ maxValue
+      more-le = flow-le (v + d) r' flowing-more
+
+      pub more-some : 0 < d
+      more-some = omega (arith, p .amount, o .tree .flows (w .count - 1) (omega (arith, o .tree .some)))
+
+    -- t is not reached
+    module _ (q : holds (w .reached) t ≡ false) where
+      inside : holds (w .reached) s ≡ true
+      inside = ap (holds (w .reached)) (sym (o .tree .root)) ∙ o .tree .held 0 (o .tree .some)
+
+      side-least : leastSide net s t ≡ w .reached
+      side-least =
+          reached-least (net .nodes) (graph net) s t v (ahead r) (back r) (w .reached) (ends-within net (a .fits)) (a .source) (a .sink) (a .apart) (f .flow)
+          (o .tree .under) inside q (o .miss q) (contained net r s w (o .tree))
+
+      value-least : minCutValue net s t ≡ v
+      value-least =
+          rw side-least
+          (full (graph net) s t v (ahead r) (back r) (f .flow) (holds (w .reached)) inside q (shut-closed (graph net) (ahead r) (back r) (holds (w .reached)) (o .miss q)))
+
+      pub at-end : Augmented net s t (record { side = w .reached; value = v }) r
+      unfolding leastCutOf
+      at-end =
+          record {
+            least = ap₂ (λ x y. record { side = x; value = y }) (sym side-least) (sym value-least);
+            flowing = rw value-least f;
+          }
