@@ -21,6 +21,7 @@
  *  101  more than 4,096 calls
  *  102  unknown kind of call; the place is the call's index
  *  103  too few places for the replies
+ *  104  a buffer of over 512 numbers (flow) or 2,048 bytes (write); the place is the call's index
  */
 #ifndef PAMZOLIT_H
 #define PAMZOLIT_H
