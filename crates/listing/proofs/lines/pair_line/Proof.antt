@@ -1,0 +1,54 @@
+-- `pair_line` meets its contract.
+use mathlib.Core.Path.{ap}
+use native.Mathlib.Omega.{arith}
+use lib.ListN.{length}
+use Rattle.listing.specs.Puts.{puts-same}
+use Rattle.listing.specs.LinesLaws.{pair-is}
+use borrow.Author.Needs.{needs}
+use Rattle.listing.proofs.lines.pair_line.Statement.{statement}
+use Rattle.listing.proofs.lines.pair_line.Tie as tie
+
+pair-requires : tie.Need-pair-requires
+pair-requires c κs = search needs
+
+weight-of-requires : tie.Need-weight-of-requires
+weight-of-requires c κs = search needs
+
+side-in-requires : tie.Need-side-in-requires
+side-in-requires c κs = search needs
+
+cast-t13 : tie.Need-cast-t13
+cast-t13 c = search needs
+
+slice-aggregate-put-line : tie.Need-slice-aggregate-put-line
+slice-aggregate-put-line c = search needs
+
+slice-aggregate-put-line-2 : tie.Need-slice-aggregate-put-line-2
+slice-aggregate-put-line-2 c = search needs
+
+put-line-requires : tie.Need-put-line-requires
+put-line-requires c κs =
+    let st = c .before .before .before .before .before .before .before in
+    omega (arith, st .pre, ap length (pair-is (st .args .p) (st .args .s) (st .args .t) (c .before .before .before .before .before .pair .ensures) (c .before .before .before .before .weight-of .ensures) (c .before .before .before .side-in .ensures)))
+
+same-length : tie.Need-same-length
+same-length c = search needs
+
+returns : tie.Need-returns
+returns c =
+    let a = c .before .before .before .before .before .before .before .before .before .before .args in
+    puts-same (pair-is (a .p) (a .s) (a .t) (c .before .before .before .before .before .before .before .before .pair .ensures) (c .before .before .before .before .before .before .before .weight-of .ensures) (c .before .before .before .before .before .before .side-in .ensures)) (c .before .before .put-line .ensures)
+
+pub pair-line-spec : {M : Type 1} → statement M
+pair-line-spec =
+    tie.close
+    (tie.spec
+    pair-requires
+    weight-of-requires
+    side-in-requires
+    cast-t13
+    slice-aggregate-put-line
+    slice-aggregate-put-line-2
+    put-line-requires
+    same-length
+    returns)
