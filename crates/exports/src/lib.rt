@@ -1,0 +1,1 @@
+// What C and Rust call.
