@@ -9,14 +9,8 @@ mod files; // opening and writing
 mod flows; // the flow call
 mod entries; // changes that can be undone
 
-pub use answers::headroom as headroom_of;
-pub use answers::pair;
-pub use changes::change;
-pub use changes::undo;
 use cut_tree::Steps;
 use cut_tree::Tree;
-pub use files::open;
-pub use flows::flow;
 use network::Network;
 
 // entries of the stack
