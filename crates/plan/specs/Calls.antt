@@ -27,7 +27,7 @@ use Rattle.plan.specs.declared.Stack.{Stack}
 use Rattle.plan.specs.declared.Plan.{Plan}
 use Rattle.plan.specs.declared.Opening.{Opening}
 use Rattle.plan.specs.declared.Changed.{Changed}
-use Rattle.plan.specs.declared.Headroom.{Headroom}
+use Rattle.plan.specs.declared.HeadroomReply.{HeadroomReply}
 use Rattle.plan.specs.declared.Written.{Written}
 
 -- the highest demand (the paper: need) of a headroom
@@ -120,11 +120,11 @@ headroomRows p s t demand = nodeRows p s t (row (ltb maxDemand demand) 17 ∷ []
 unfoldable pub headroomNumber : Plan → ℕ → ℕ → ℕ → ℕ
 headroomNumber p s t demand = chain (headroomRows p s t demand)
 
-abbrev pub headroomBy : ℤ → Headroom
+abbrev pub headroomBy : ℤ → HeadroomReply
 headroomBy z = record { number = 0; value = z; text = textOf z }
 
 -- the pair's weight less the demand; 0 and spaces beside a refusal
-unfoldable pub headroomOf : Plan → ℕ → ℕ → ℕ → Headroom
+unfoldable pub headroomOf : Plan → ℕ → ℕ → ℕ → HeadroomReply
 headroomOf p s t demand =
     accepted (headroomNumber p s t demand) (headroomBy (pos (weightOf (answer (p .tree) (p .network .nodes) s t)) -ℤ pos demand))
     (λ e. record { number = e; value = pos 0; text = replicate textWidth 32 })

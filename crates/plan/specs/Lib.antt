@@ -30,6 +30,7 @@ pub mod SoundParts
 pub mod SoundLaws
 pub mod SoundFacts
 pub mod CallParts
-pub mod CallLaws
-pub mod ChangeLaws
-pub mod OpenLaws
+pub mod AnswersLaws
+pub mod FlowsLaws
+pub mod ChangesLaws
+pub mod FilesLaws

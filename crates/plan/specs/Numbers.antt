@@ -22,7 +22,7 @@ use Rattle.plan.specs.ChecksLaws.{absent, single, under, _and_, at-last,
 use Rattle.plan.specs.declared.Plan.{Plan}
 use Rattle.plan.specs.declared.Opening.{Opening}
 use Rattle.plan.specs.declared.Changed.{Changed}
-use Rattle.plan.specs.declared.Headroom.{Headroom}
+use Rattle.plan.specs.declared.HeadroomReply.{HeadroomReply}
 use Rattle.plan.specs.declared.Written.{Written}
 
 -- ---- a reply by its number: accepted x, or refused
@@ -178,7 +178,7 @@ module _ (p : Plan) (s t : ℕ) (before : List ℤ) (number : ℕ) (behind : Lis
 module _ (p : Plan) (s t demand : ℕ) where
   headroom-is : headroomOf p s t demand .number ≡ chain (headroomRows p s t demand)
   unfolding headroomOf headroomNumber
-  headroom-is = number-kept (λ (r : Headroom). r .number) (headroomNumber p s t demand) _ _ refl (λ n. refl)
+  headroom-is = number-kept (λ (r : HeadroomReply). r .number) (headroomNumber p s t demand) _ _ refl (λ n. refl)
 
   pub headroom-given : Given (headroomRows p s t demand) (headroomOf p s t demand .number)
   headroom-given = rw headroom-is (given (headroomRows p s t demand))
@@ -212,7 +212,7 @@ module _ (p : Plan) (s t demand : ℕ) where
       → (headroomOf p s t demand .value ≡ pos 0) × (headroomOf p s t demand .text ≡ replicate textWidth 32)
   unfolding headroomOf headroomNumber
   headroom-refused d =
-      let r : ℕ → Headroom = λ e. record { number = e; value = pos 0; text = replicate textWidth 32 } in
+      let r : ℕ → HeadroomReply = λ e. record { number = e; value = pos 0; text = replicate textWidth 32 } in
       let e : headroomOf p s t demand ≡ r (headroomNumber p s t demand) = refused-by (headroomNumber p s t demand) _ r (rw headroom-is at d) in
       rw e (refl, refl)
 

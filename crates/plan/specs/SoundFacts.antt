@@ -8,7 +8,7 @@ use native.Mathlib.Decide.{decLt}
 use lib.ListN.{drop}
 use borrow.Author.Tests.{ltb-true, leb-true, eqb-true}
 use lib.Dec.{ltb, leb, eqb}
-use Rattle.network.specs.Basics.{at, all, blank}
+use Rattle.network.specs.Basics.{at, blank}
 use Rattle.network.specs.BasicsLaws.{and-l, and-r, all-at, shown, head, rest}
 use Rattle.network.specs.Limits.{maxCapacity, maxValue}
 use Rattle.network.specs.Network.{networkFits}

@@ -1,5 +1,5 @@
 // Pairs and headrooms.
-use crate::Headroom;
+use crate::HeadroomReply;
 use crate::Plan;
 use crate::sound::is_sound;
 use cut_tree::PairAnswer;
@@ -21,30 +21,30 @@ pub fn pair(p: Plan, s: usize, t: usize) -> PairAnswer
     cut_tree::query(p.tree, p.network.nodes, s, t)
 }
 
-fn refused_headroom(number: u32) -> Headroom
+fn refused_headroom(number: u32) -> HeadroomReply
     ensures { λ r. ⌜ r ≡ refusedHeadroom number ⌝ }
 {
-    Headroom {
+    HeadroomReply {
         number: number,
         value: 0,
         text: [32; 12],
     }
 }
 
-fn headroom_by(weight: u32, demand: u32) -> Headroom
+fn headroom_by(weight: u32, demand: u32) -> HeadroomReply
     requires { ⌜ (weight ≤ maxValue) × (demand ≤ maxDemand) ⌝ }
     ensures { λ r. ⌜ r ≡ headroomBy (pos weight -ℤ pos demand) ⌝ }
 {
     let value = text::difference(weight, demand);
     let text = text::tenths(value);
-    Headroom {
+    HeadroomReply {
         number: 0,
         value: value,
         text: text,
     }
 }
 
-pub fn headroom(p: Plan, s: usize, t: usize, demand: u32) -> Headroom
+pub fn headroom(p: Plan, s: usize, t: usize, demand: u32) -> HeadroomReply
     ensures { λ r. ⌜ r ≡ headroomOf p s t demand ⌝ }
 {
     let answer = pair(p, s, t);

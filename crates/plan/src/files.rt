@@ -1,43 +1,42 @@
 // Opening and writing.
 use crate::Opening;
 use crate::Plan;
+use crate::Written;
 use crate::entries;
+use crate::sound::is_sound;
 use cut_tree::Steps;
 use cut_tree::Tree;
 use network::MAX_LINKS;
 use network::MAX_NODES;
 use network::Network;
+ghost use lib.ListN.{length};
 ghost use mathlib.Core.Bool.{true};
 ghost use mathlib.Core.Path.{_≡_};
 ghost use Rattle.network.specs.Network.{networkFits};
-ghost use Rattle.plan.specs.Calls.{fresh, openOf};
+ghost use Rattle.plan.specs.Calls.{fresh, openOf, writeOf, writtenTo};
 ghost use Rattle.plan.specs.Plan.{noPlan};
 
 fn no_plan() -> Plan
     ensures { λ r. ⌜ r ≡ noPlan ⌝ }
 {
-    let network = Network {
-        nodes: 0,
-        links: 0,
-        a: [0; MAX_LINKS],
-        b: [0; MAX_LINKS],
-        capacity: [0; MAX_LINKS],
-    };
-    let tree = Tree {
-        parent: [0; MAX_NODES],
-        weight: [0; MAX_NODES],
-    };
-    let steps = Steps {
-        pivot: [0; MAX_NODES],
-        side: [0; MAX_NODES],
-        value: [0; MAX_NODES],
-    };
-    let stack = entries::empty();
     Plan {
-        network: network,
-        tree: tree,
-        steps: steps,
-        stack: stack,
+        network: Network {
+            nodes: 0,
+            links: 0,
+            a: [0; MAX_LINKS],
+            b: [0; MAX_LINKS],
+            capacity: [0; MAX_LINKS],
+        },
+        tree: Tree {
+            parent: [0; MAX_NODES],
+            weight: [0; MAX_NODES],
+        },
+        steps: Steps {
+            pivot: [0; MAX_NODES],
+            side: [0; MAX_NODES],
+            value: [0; MAX_NODES],
+        },
+        stack: entries::empty(),
     }
 }
 
@@ -75,5 +74,22 @@ pub fn open(file: &[u8]) -> Opening
         number: 0,
         place: 0,
         plan: plan,
+    }
+}
+
+pub fn write(p: Plan, out: &mut [u8]) -> Written
+    ensures { λ r. ⌜ r ≡ writeOf p (length (now (out .entry))) ⌝ }
+    ensures { λ _. ⌜ now (out .exit) ≡ writtenTo p (now (out .entry)) ⌝ }
+{
+    if !is_sound(p) {
+        return Written {
+            number: 19,
+            length: 0,
+        };
+    }
+    let w = network_file::write(p.network, &mut *out);
+    Written {
+        number: w.number,
+        length: w.length,
     }
 }

@@ -4,11 +4,19 @@
 mod answers; // pairs and headrooms
 mod changes; // change and undo
 mod checks; // refusals of change and undo
-mod sound; // number 19: the shape of a plan
+mod entries; // the stack's entries, pushed and popped
 mod files; // opening and writing
 mod flows; // the flow call
-mod entries; // changes that can be undone
+mod sound; // number 19: the shape of a plan
 
+pub use crate::answers::MAX_DEMAND;
+pub use crate::answers::headroom;
+pub use crate::answers::pair;
+pub use crate::changes::change;
+pub use crate::changes::undo;
+pub use crate::files::open;
+pub use crate::files::write;
+pub use crate::flows::flow;
 use cut_tree::Steps;
 use cut_tree::Tree;
 use network::Network;
@@ -45,7 +53,7 @@ pub struct Changed {
     pub plan: Plan,
 }
 
-pub struct Headroom {
+pub struct HeadroomReply {
     pub number: u32,
     pub value: i32,
     pub text: [u8; 12],

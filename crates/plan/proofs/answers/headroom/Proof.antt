@@ -1,8 +1,7 @@
 -- `plan::answers::headroom` meets its contract: one law at each way through the pair's answer.
-use mathlib.Core.Path.{_≡_, sym, _∙_}
+use mathlib.Core.Path.{sym, _∙_}
 use borrow.Author.Needs.{needs}
-use native.Mathlib.Omega.{arith}
-use Rattle.plan.specs.CallLaws.{headroom-refused, found-weight, headroom-over, headroom-found}
+use Rattle.plan.specs.AnswersLaws.{headroom-refused, found-weight, headroom-over, headroom-found}
 use Rattle.plan.proofs.answers.headroom.Statement.{statement}
 use Rattle.plan.proofs.answers.headroom.Tie as tie
 

@@ -1,15 +1,13 @@
 -- `plan::answers::headroom_by` meets its contract. A signed number that is passed on is read back from its bits.
-use mathlib.Core.Path.{_≡_, refl, sym, ap, _∙_}
-use Prim.Native.Nat.{_<_, _^_}
+use mathlib.Core.Path.{_≡_, _∙_}
+use Prim.Native.Nat.{_^_}
 use native.Mathlib.Omega.{arith}
 use borrow.Author.Needs.{needs}
-use lib.IntN.{ℤ, pos, natAbs, _-ℤ_}
+use lib.IntN.{pos, _-ℤ_}
 use mir.Syntax.{w32}
 use mir.Val.{toZ, ofZ}
 use mir.Facts.{toZ-ofZ}
 use Rattle.text.specs.ColumnsLaws.{diff-abs}
-use Rattle.text.specs.Text.{textOf}
-use Rattle.plan.specs.Calls.{headroomBy}
 use Rattle.plan.proofs.answers.headroom_by.Statement.{statement}
 use Rattle.plan.proofs.answers.headroom_by.Tie as tie
 

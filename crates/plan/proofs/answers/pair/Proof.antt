@@ -3,7 +3,7 @@ use mathlib.Core.Path.{sym, _∙_}
 use borrow.Author.Needs.{needs}
 use Rattle.network.specs.BasicsLaws.{answered-no, answered-yes}
 use Rattle.plan.specs.SoundFacts.{sound-climbs}
-use Rattle.plan.specs.CallLaws.{pair-unsound, pair-query}
+use Rattle.plan.specs.AnswersLaws.{pair-unsound, pair-query}
 use Rattle.plan.proofs.answers.pair.Statement.{statement}
 use Rattle.plan.proofs.answers.pair.Tie as tie
 

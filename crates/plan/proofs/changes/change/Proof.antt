@@ -1,12 +1,12 @@
 -- `plan::changes::change` meets its contract. Once no row held, the link and its capacity stand within the limits and the stack has room.
-use mathlib.Core.Path.{_≡_, sym, ap, _∙_}
+use mathlib.Core.Path.{sym, ap, _∙_}
 use Prim.Native.Nat.{_<_}
 use native.Mathlib.Omega.{arith}
 use borrow.Author.Needs.{needs}
 use Rattle.network.specs.Limits.{maxLinks}
 use Rattle.network.specs.NetworkLaws.{links-le}
 use Rattle.plan.specs.Calls.{altered}
-use Rattle.plan.specs.ChangeLaws.{change-refused, change-accepted, change-assumes}
+use Rattle.plan.specs.ChangesLaws.{change-refused, change-accepted, change-assumes}
 use Rattle.plan.specs.declared.Stack.{Stack}
 use Rattle.plan.proofs.changes.change.Statement.{statement}
 use Rattle.plan.proofs.changes.change.Tie as tie

@@ -1,18 +1,13 @@
 -- `plan::flows::flow` meets its contract: one row of the table at each return.
 use mathlib.Core.Path.{sym, ap, _∙_}
 use mathlib.Core.Bool.{not}
-use mathlib.Core.Logic.{_≢_}
-use Prim.Native.Nat.{ℕ}
-use native.Mathlib.Omega.{arith}
 use borrow.Author.Needs.{needs}
 use borrow.Author.Tests.{eq-eqb, ne-eqb}
-use lib.ListN.{length}
 use Rattle.network.specs.BasicsLaws.{answered-yes}
-use Rattle.network.specs.Checks.{Row, Given, passed, here, later}
-use Rattle.plan.specs.Calls.{flowRows}
+use Rattle.network.specs.Checks.{passed, here, later}
 use Rattle.plan.specs.ChecksLaws.{both-below}
 use Rattle.plan.specs.SoundFacts.{sound-network}
-use Rattle.plan.specs.CallLaws.{first-outside, other-outside, flow-refused, flow-filled}
+use Rattle.plan.specs.FlowsLaws.{first-outside, other-outside, flow-refused, flow-filled}
 use Rattle.plan.proofs.flows.flow.Statement.{statement}
 use Rattle.plan.proofs.flows.flow.Tie as tie
 

@@ -1,6 +1,6 @@
 -- `plan::sound::is_sound` meets its contract: one test of the definition at each return. A network that fits has few enough nodes for the others.
 use borrow.Author.Needs.{needs}
-use Rattle.network.specs.BasicsLaws.{Settled, fail, pass, last, settled, answered-no, answered-yes}
+use Rattle.network.specs.BasicsLaws.{fail, pass, last, settled, answered-no, answered-yes}
 use Rattle.network.specs.NetworkLaws.{nodes-pos, nodes-le}
 use Rattle.plan.specs.Plan.{sound}
 use Rattle.plan.proofs.sound.is_sound.Statement.{statement}

@@ -3,7 +3,6 @@ use mathlib.Core.Path.{_≡_, sym, ap, _∙_}
 use mathlib.Core.Bool.{true}
 use Prim.Native.Nat.{ℕ, _≤_, _-_}
 use native.Mathlib.Omega.{arith}
-use borrow.Author.Needs.{needs}
 use Rattle.network.specs.BasicsLaws.{all-none, all-more, all-fails, answered-no, answered-yes}
 use Rattle.plan.specs.SoundParts.{rooted}
 use Rattle.plan.specs.SoundLaws.{parents-inside}

@@ -1,7 +1,7 @@
 -- `plan::sound::stack_fits` meets its contract: one test of the definition at each return.
 use borrow.Author.Needs.{needs}
 use borrow.Author.Tests.{le-leb, lt-leb}
-use Rattle.network.specs.BasicsLaws.{Settled, fail, pass, last, settled, answered-no, answered-yes}
+use Rattle.network.specs.BasicsLaws.{fail, pass, last, settled, answered-no, answered-yes}
 use Rattle.plan.specs.Plan.{stackFits}
 use Rattle.plan.proofs.sound.stack_fits.Statement.{statement}
 use Rattle.plan.proofs.sound.stack_fits.Tie as tie

@@ -1,9 +1,9 @@
 -- `plan::sound::step_within` meets its contract: one test of the definition at each return.
-use mathlib.Core.Path.{refl, ap}
+use mathlib.Core.Path.{ap}
 use mathlib.Core.Bool.{not}
 use borrow.Author.Needs.{needs}
 use borrow.Author.Tests.{lt-ltb, le-ltb, le-leb, lt-leb}
-use Rattle.network.specs.BasicsLaws.{Settled, fail, pass, last, settled, answered-no, answered-yes}
+use Rattle.network.specs.BasicsLaws.{fail, pass, last, settled, answered-no, answered-yes}
 use Rattle.plan.specs.SoundLaws.{side-within, side-outside}
 use Rattle.plan.proofs.sound.step_within.Statement.{statement}
 use Rattle.plan.proofs.sound.step_within.Tie as tie

@@ -1,6 +1,6 @@
 -- `plan::sound::steps_fit` meets its contract: one test of the definition at each return.
 use borrow.Author.Needs.{needs}
-use Rattle.network.specs.BasicsLaws.{Settled, fail, pass, last, settled, answered-no, answered-yes}
+use Rattle.network.specs.BasicsLaws.{fail, pass, last, settled, answered-no, answered-yes}
 use Rattle.plan.specs.Plan.{stepsFit}
 use Rattle.plan.proofs.sound.steps_fit.Statement.{statement}
 use Rattle.plan.proofs.sound.steps_fit.Tie as tie

@@ -4,7 +4,6 @@ use mathlib.Core.Bool.{true}
 use Prim.Native.Nat.{ℕ, _≤_, _-_}
 use native.Mathlib.Omega.{arith}
 use borrow.Author.Tests.{le-leb, lt-leb}
-use Rattle.network.specs.Basics.{all}
 use Rattle.network.specs.BasicsLaws.{all-none, all-more, all-fails}
 use Rattle.plan.specs.SoundParts.{weightsWithin}
 use Rattle.plan.proofs.sound.weights_within.Statement.{statement}

@@ -1,7 +1,7 @@
 -- Change and undo, refused and accepted: what the code may assume once no row of the table held, and the reply.
-use mathlib.Core.Path.{_≡_, refl, sym, ap, _∙_}
+use mathlib.Core.Path.{_≡_, refl, sym, _∙_}
 use mathlib.Core.Logic.{_≢_}
-use mathlib.Core.Bool.{Bool, true, false, not}
+use mathlib.Core.Bool.{true, not}
 use Prim.Native.Nat.{ℕ, zero, suc, _-_, _≤_, _<_}
 use native.Mathlib.Omega.{arith}
 use lib.Dec.{ltb, eqb}
@@ -15,7 +15,6 @@ use Rattle.plan.specs.Calls.{changeNumber, undoNumber, unaltered, change
 use Rattle.plan.specs.MachineLaws.{passed-row, later-rows}
 use Rattle.plan.specs.SoundFacts.{sound-network, sound-depth, sound-entry}
 use Rattle.plan.specs.declared.Plan.{Plan}
-use Rattle.plan.specs.declared.Changed.{Changed}
 
 -- a reply by its number
 pub by-refusal : {A : Type 0} (e : ℕ) (x : A) (f : ℕ → A) → e ≢ 0 → accepted e x f ≡ f e

@@ -1,8 +1,8 @@
--- The ways through the calls, one law for each return of the code.
-use mathlib.Core.Path.{_≡_, refl, sym, ap, _∙_}
+-- Pair and headroom: one law for each way through the code.
+use mathlib.Core.Path.{_≡_, refl, sym, ap}
 use mathlib.Core.Bool.{Bool, true, false, not, _&&_}
 use mathlib.Core.List.{List, [], _∷_}
-use Prim.Native.Nat.{ℕ, zero, suc, _≤_, _<_}
+use Prim.Native.Nat.{ℕ, suc, _≤_, _<_}
 use native.Mathlib.Omega.{arith}
 use lib.ListN.{length}
 use lib.Dec.{ltb, eqb}
@@ -20,7 +20,7 @@ use Rattle.plan.specs.ChecksLaws.{one-not-below}
 use Rattle.plan.specs.SoundFacts.{sound-weight}
 use Rattle.plan.specs.CallParts.{refusedHeadroom}
 use Rattle.plan.specs.declared.Plan.{Plan}
-use Rattle.plan.specs.declared.Headroom.{Headroom}
+use Rattle.plan.specs.declared.HeadroomReply.{HeadroomReply}
 
 -- ---- pair
 module _ (p : Plan) (s t : ℕ) where
@@ -43,7 +43,7 @@ asked a x y z = accepted (rows x y z 0) a Refused
 abbrev Right : PairAnswer → Type 0
 Right a = (e : ℕ) → a ≡ Refused e → ⊥
 
-refused-rows : (a : PairAnswer) → Right a → (later : ℕ) (h : Headroom) (e : ℕ) (x y z : Bool)
+refused-rows : (a : PairAnswer) → Right a → (later : ℕ) (h : HeadroomReply) (e : ℕ) (x y z : Bool)
     → asked a x y z ≡ Refused e → accepted (rows x y z later) h refusedHeadroom ≡ refusedHeadroom e
 refused-rows a found later h e true y z q = ap refusedHeadroom (ap numberOf q)
 refused-rows a found later h e false true z q = ap refusedHeadroom (ap numberOf q)
@@ -87,20 +87,3 @@ module _ (p : Plan) (s t : ℕ) where
     pub headroom-found : (demand : ℕ) → demand ≤ maxDemand → headroomOf p s t demand ≡ headroomBy (pos w -ℤ pos demand)
     unfolding headroomOf headroomNumber
     headroom-found demand l = rw (by-pair (row (ltb maxDemand demand) 17 ∷ []) .1, le-ltb maxDemand demand l, by-pair [] .2)
-
--- ---- flow
--- s is no node; t is none
-pub first-outside : (s t n : ℕ) → n ≤ s → not (ltb s n && ltb t n) ≡ true
-first-outside s t n l = one-not-below s t n .1 (λ h. omega (arith, h .0))
-
-pub other-outside : (s t n : ℕ) → n ≤ t → not (ltb s n && ltb t n) ≡ true
-other-outside s t n l = one-not-below s t n .1 (λ h. omega (arith, h .1))
-
-module _ (p : Plan) (s t : ℕ) (before : List ℤ) where
-  pub flow-refused : (e : ℕ) → Given (flowRows p s t (length before)) (suc e) → Flowed p s t before (suc e) before
-  unfolding flowNumber
-  flow-refused e g = record { number-is = sym (only g); lawful = λ q. absurd (omega arith); total = λ q. absurd (omega arith); untouched = λ q. refl }
-
-  pub flow-filled : (behind : List ℤ) → Given (flowRows p s t (length before)) 0 → LargestFlow (p .network) s t behind → Flowed p s t before 0 behind
-  unfolding flowNumber
-  flow-filled behind g f = record { number-is = sym (only g); lawful = λ q. f .lawful; total = λ q. f .total; untouched = λ q. absurd (q refl) }
