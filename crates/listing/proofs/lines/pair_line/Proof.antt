@@ -1,7 +1,9 @@
 -- `pair_line` meets its contract.
-use mathlib.Core.Path.{ap}
+use mathlib.Core.Path.{_≡_, ap}
+use mathlib.Core.List.{[], _∷_}
 use native.Mathlib.Omega.{arith}
 use lib.ListN.{length}
+use Rattle.listing.specs.Listing.{pairWord, lineOf, pairLine}
 use Rattle.listing.specs.Puts.{puts-same}
 use Rattle.listing.specs.LinesLaws.{pair-is}
 use borrow.Author.Needs.{needs}
@@ -26,18 +28,23 @@ slice-aggregate-put-line c = search needs
 slice-aggregate-put-line-2 : tie.Need-slice-aggregate-put-line-2
 slice-aggregate-put-line-2 c = search needs
 
+-- the numbers are those of the pair's line
+line-is : (c : tie.After-side-in) → let a = c .before .before .before .before .args in
+    lineOf pairWord (a .s ∷ a .t ∷ c .before .weight-of .result ∷ c .side-in .result ∷ []) ≡ pairLine (a .p) (a .s) (a .t)
+line-is c =
+    let a = c .before .before .before .before .args in
+    pair-is (a .p) (a .s) (a .t) (c .before .before .pair .ensures) (c .before .weight-of .ensures) (c .side-in .ensures)
+
 put-line-requires : tie.Need-put-line-requires
 put-line-requires c κs =
-    let st = c .before .before .before .before .before .before .before in
-    omega (arith, st .pre, ap length (pair-is (st .args .p) (st .args .s) (st .args .t) (c .before .before .before .before .before .pair .ensures) (c .before .before .before .before .weight-of .ensures) (c .before .before .before .side-in .ensures)))
+    let d = c .before .before .before in
+    omega (arith, d .before .before .before .before .pre, ap length (line-is d))
 
 same-length : tie.Need-same-length
 same-length c = search needs
 
 returns : tie.Need-returns
-returns c =
-    let a = c .before .before .before .before .before .before .before .before .before .before .args in
-    puts-same (pair-is (a .p) (a .s) (a .t) (c .before .before .before .before .before .before .before .before .pair .ensures) (c .before .before .before .before .before .before .before .weight-of .ensures) (c .before .before .before .before .before .before .side-in .ensures)) (c .before .before .put-line .ensures)
+returns c = puts-same (line-is (c .before .before .before .before .before .before)) (c .before .before .put-line .ensures)
 
 pub pair-line-spec : {M : Type 1} → statement M
 pair-line-spec =
