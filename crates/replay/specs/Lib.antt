@@ -1,1 +1,6 @@
+pub mod Replay
 pub mod Puts
+pub mod Steps
+pub mod OrderLaws
+pub mod FaultLaws
+pub mod RunLaws
