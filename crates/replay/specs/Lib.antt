@@ -4,3 +4,5 @@ pub mod Steps
 pub mod OrderLaws
 pub mod FaultLaws
 pub mod RunLaws
+pub mod LoopLaws
+pub mod WholeLaws

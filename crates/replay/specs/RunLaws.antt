@@ -4,7 +4,7 @@ use mathlib.Core.Path.{_≡_, refl, sym, ap, subst, _∙_}
 use mathlib.Core.Bool.{Bool, true, false, not, _&&_}
 use mathlib.Core.List.{List, [], _∷_, _++_, map}
 use native.Mathlib.Omega.{arith}
-use lib.ListN.{length, take, drop, replicate, length-replicate, length-append}
+use lib.ListN.{length, take, drop, replicate, length-replicate, length-append, length-map}
 use lib.Seq.{take-append-seam, length-take-le}
 use lib.Dec.{ltb, eqb}
 use lib.IntN.{ℤ, pos}
@@ -25,22 +25,24 @@ use Rattle.plan.specs.declared.Plan.{Plan}
 use Rattle.plan.specs.declared.Changed.{Changed}
 use Rattle.plan.specs.declared.HeadroomReply.{HeadroomReply}
 use Rattle.plan.specs.declared.Written.{Written}
-use Rattle.replay.specs.Replay.{Order, call, headroom, write, changedNumbers, pairNumbers, headroomNumbers, writtenNumbers, Replied, of-change, of-undo, of-pair, of-flow, of-headroom, of-write}
+use Rattle.replay.specs.Replay.{Order, call, headroom, write, changedNumbers, pairNumbers, headroomNumbers, writtenNumbers, replySize, Replied, of-change, of-undo, of-pair, of-flow, of-headroom, of-write}
 use Rattle.replay.specs.Puts.{Puts, puts-then, puts-same}
 use Rattle.replay.specs.Steps.{Altered, Answers, Asks}
 use Rattle.replay.specs.declared.Next.{Next}
 
 -- ---- change and undo
 module _ {p : Plan} {b : List ℤ} {i : ℕ} {r : Next} {m : List ℤ} where
-  answers-by : {o : Order} {done : Changed} → Replied p o (changedNumbers done) (done .plan) → Altered done b i r m → Answers p o b i r m
-  answers-by {o} {done} h a =
-      record { reply = changedNumbers done; replied = subst (λ (q : Plan). Replied p o (changedNumbers done) q) (sym (a .plan-is)) h; put = a .put }
+  answers-by : {o : Order} {done : Changed} → replySize o ≡ 2 → Replied p o (changedNumbers done) (done .plan) → Altered done b i r m → Answers p o b i r m
+  answers-by {o} {done} n h a =
+      record { reply = changedNumbers done; replied = subst (λ (q : Plan). Replied p o (changedNumbers done) q) (sym (a .plan-is)) h; sized = sym n; put = a .put }
 
   pub change-answers : (k c : ℕ) {done : Changed} → done ≡ changeOf p k c → Altered done b i r m → Answers p (call (change k c)) b i r m
-  change-answers k c e a = answers-by (subst (λ (d : Changed). Replied p (call (change k c)) (changedNumbers d) (d .plan)) (sym e) (of-change k c)) a
+  unfolding replySize
+  change-answers k c e a = answers-by refl (subst (λ (d : Changed). Replied p (call (change k c)) (changedNumbers d) (d .plan)) (sym e) (of-change k c)) a
 
   pub undo-answers : {done : Changed} → done ≡ undoOf p → Altered done b i r m → Answers p (call undo) b i r m
-  undo-answers e a = answers-by (subst (λ (d : Changed). Replied p (call undo) (changedNumbers d) (d .plan)) (sym e) of-undo) a
+  unfolding replySize
+  undo-answers e a = answers-by refl (subst (λ (d : Changed). Replied p (call undo) (changedNumbers d) (d .plan)) (sym e) of-undo) a
 
   -- the same call, said otherwise
   pub answers-as : {o o′ : Order} → o ≡ o′ → Answers p o′ b i r m → Answers p o b i r m
@@ -52,11 +54,19 @@ module _ {p : Plan} {b : List ℤ} {i j : ℕ} {m : List ℤ} where
   asks-as e a = subst (λ (o : Order). Asks p o b i j m) (sym e) a
 
   pub pair-asks : (s t : ℕ) {r : PairAnswer} → r ≡ pairOf p s t → Puts b i (pairNumbers r) j m → Asks p (call (pair s t)) b i j m
-  pair-asks s t e h = record { reply = pairNumbers (pairOf p s t); replied = of-pair s t; put = puts-same (ap pairNumbers e) h }
+  unfolding replySize
+  pair-asks s t e h = record { reply = pairNumbers (pairOf p s t); replied = of-pair s t; sized = refl; put = puts-same (ap pairNumbers e) h }
 
-  pub headroom-asks : (s t demand : ℕ) {r : HeadroomReply} → r ≡ headroomOf p s t demand → Puts b i (headroomNumbers r) j m → Asks p (headroom s t demand) b i j m
-  headroom-asks s t demand e h =
-      record { reply = headroomNumbers (headroomOf p s t demand); replied = of-headroom s t demand; put = puts-same (ap headroomNumbers e) h }
+  pub headroom-asks : (s t demand : ℕ) {r : HeadroomReply} → r ≡ headroomOf p s t demand → 12 ≡ length (r .text) → Puts b i (headroomNumbers r) j m
+      → Asks p (headroom s t demand) b i j m
+  unfolding replySize
+  headroom-asks s t demand {r} e n h =
+      record {
+        reply = headroomNumbers (headroomOf p s t demand);
+        replied = of-headroom s t demand;
+        sized = sym (ap (λ (x : HeadroomReply). length (headroomNumbers x)) e) ∙ omega (arith, n, length-map (r .text) pos);
+        put = puts-same (ap headroomNumbers e) h;
+      }
 
 -- the node of a pair's reply is one of 64
 pub pair-node : (p : Plan) (s t : ℕ) {r : PairAnswer} → r ≡ pairOf p s t → nodeOf r < 2 ^ 32
@@ -98,9 +108,11 @@ module _ {A : Type 0} (x : A) (n k : ℕ) (l : k ≤ n) where
 module _ {p : Plan} {b : List ℤ} {i : ℕ} (s t size n number : ℕ) (filled : List ℤ) (l : size ≤ n)
     (h : Flowed p s t (take size (replicate n (pos 0))) number filled) (long : length filled ≡ length (take size (replicate n (pos 0)))) where
   pub flow-asks : {j k : ℕ} {m v : List ℤ} → Puts b i (pos number ∷ []) j m → Puts m j (take size (filled ++ drop size (replicate n (pos 0)))) k v → Asks p (call (flow s t size)) b i k v
+  unfolding replySize
   flow-asks q r =
       record {
         reply = pos number ∷ filled;
+        sized = ap suc (long ∙ lent-long (pos 0) n size l) ∙ omega arith;
         replied = of-flow s t size number filled (subst (λ (z : List ℤ). Flowed p s t z number filled) (zeros-front (pos 0) n size l) h);
         put = puts-then q (puts-same (back-front (pos 0) n size l filled long) r);
       }
@@ -130,9 +142,11 @@ module _ (p : Plan) (size n : ℕ) (w : Written) (l : size ≤ n) (e : w ≡ wri
   module _ {b : List ℤ} {i : ℕ} (filled : List ℕ) (h : filled ≡ writtenTo p (take size (zeros n))) (long : length filled ≡ length (take size (zeros n))) where
     pub write-asks : {j k : ℕ} {m v : List ℤ} → Puts b i (pos (w .number) ∷ pos (w .length) ∷ []) j m → Puts m j (map pos (take size (filled ++ drop size (zeros n)))) k v
         → Asks p (write size) b i k v
+    unfolding replySize
     write-asks q r =
         let f : filled ≡ writtenTo p (zeros size) = h ∙ ap (writtenTo p) (zeros-front {A = ℕ} 0 n size l) in
         record {
+          sized = omega (arith, length-map (writtenTo p (zeros size)) pos, ap length f, long ∙ lent-long {A = ℕ} 0 n size l);
           reply = writtenNumbers (writeOf p size) (writtenTo p (zeros size));
           replied = of-write size;
           put =

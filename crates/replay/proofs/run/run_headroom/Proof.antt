@@ -40,7 +40,7 @@ returns : tie.Need-returns
 returns c =
     let e = c .before .before .before .before .before .before .before .before .before .before .before .before .before .before .headroom in
     let f : SFits w32 (e .result .value) = search needs in
-    headroom-asks _ _ _ (e .ensures) (puts-then (puts-then (c .before .before .before .before .before .before .before .before .before .before .before .put-numbers .ensures) (puts-same (ap (λ (z : ℤ). z ∷ []) (toZ-ofZ f)) (c .before .before .before .before .before .before .put-signed .ensures))) (c .before .put-bytes .ensures))
+    headroom-asks _ _ _ (e .ensures) (slice-aggregate-put-bytes (c .before .before)) (puts-then (puts-then (c .before .before .before .before .before .before .before .before .before .before .before .put-numbers .ensures) (puts-same (ap (λ (z : ℤ). z ∷ []) (toZ-ofZ f)) (c .before .before .before .before .before .before .put-signed .ensures))) (c .before .put-bytes .ensures))
 
 pub run-headroom-spec : {M : Type 1} → statement M
 run-headroom-spec =
