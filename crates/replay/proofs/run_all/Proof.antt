@@ -1,42 +1,42 @@
+-- `run_all` meets its contract. At the head of a turn the calls before call i are run.
+use Prim.Native.Nat.{_-_, _/_}
+use native.Mathlib.Omega.{arith}
+use lib.ListN.{length}
+use Rattle.replay.specs.Puts.{puts-length}
+use Rattle.replay.specs.LoopLaws.{Going, going-start, going-fine, going-room, going-next, going-end}
 use Rattle.replay.proofs.run_all.Statement.{statement}
 use Rattle.replay.proofs.run_all.Tie as tie
-use Rattle.replay.proofs.run_all.Reads as reads
-use Rattle.replay.proofs.run_all.Lts as lts
-use Rattle.replay.proofs.run.run_one.Reads as run-one-reads
 
 abbrev Inv-loop : tie.InvT-loop
-Inv-loop calls out₀ plan₀ place₀ i₀ i-end out plan place i = ?
+Inv-loop calls out₀ plan₀ place₀ i₀ i-end out plan place i = Going plan₀ calls out₀ plan place i out
 
 abbrev μ-loop : tie.MeasureT-loop
-μ-loop calls out₀ plan₀ place₀ i₀ i-end out plan place i = ?
+μ-loop calls out₀ plan₀ place₀ i₀ i-end out plan place i = length calls / 4 - i
 
--- src/lib.rt:36:5
 loop-holds : tie.Need-loop-holds Inv-loop μ-loop
-loop-holds c = ?
+loop-holds c = going-start _ _ _ (c .before .pre)
 
--- src/lib.rt:37:13
 run-one-requires : tie.Need-run-one-requires Inv-loop μ-loop
-run-one-requires c κs = ?
+run-one-requires c κs =
+    let h = c .before .before .loop .inv in
+    let l = c .before .loop-test .taken in
+    (omega (arith, l), (going-fine h l, going-room h l))
 
--- src/lib.rt:36:9
 add-i : tie.Need-add-i Inv-loop μ-loop
-add-i c = ?
+add-i c = omega (arith, c .before .before .before .before .loop-test .taken)
 
--- src/lib.rt:36:5
 loop-less : tie.Need-loop-less Inv-loop μ-loop
-loop-less c = ?
+loop-less c = omega (arith, c .before .before .before .before .loop-test .taken)
 
--- src/lib.rt:36:5
 loop-again : tie.Need-loop-again Inv-loop μ-loop
-loop-again c = ?
+loop-again c =
+    going-next (c .before .before .before .before .before .loop .inv) (c .before .before .before .before .loop-test .taken) (c .before .before .run-one .ensures)
 
--- src/lib.rt:30:1
 same-length : tie.Need-same-length Inv-loop μ-loop
-same-length c = ?
+same-length c = puts-length (c .before .loop .inv .put)
 
--- src/lib.rt:30:1
 returns : tie.Need-returns Inv-loop μ-loop
-returns c = ?
+returns c = going-end (c .before .loop .inv) (c .loop-test .left)
 
 pub run-all-spec : {M : Type 1} → statement M
 run-all-spec =
