@@ -45,7 +45,13 @@ fn put_reply(place: usize, found: HeadroomReply, out: &mut [i64]) -> usize
 
 // The headroom of two nodes of a file.
 #[no_mangle]
-pub extern "C" fn pamzolit_headroom(file: &[u8], s: usize, t: usize, demand: u32, reply: &mut [i64]) -> usize
+pub extern "C" fn pamzolit_headroom(
+    file: &[u8],
+    s: usize,
+    t: usize,
+    demand: u32,
+    reply: &mut [i64],
+) -> usize
     ensures { λ r. ⌜ r ≡ replyLength (length (now (reply .entry))) ⌝ }
     ensures { λ _. ⌜ now (reply .exit) ≡ repliedTo (now (file .entry)) s t demand (now (reply .entry)) ⌝ }
 {

@@ -1,39 +1,41 @@
+-- `put_reply` meets its contract: number and place, value, text.
+use mathlib.Core.Path.{ap}
+use mathlib.Core.List.{[], _∷_}
+use native.Mathlib.Omega.{arith}
+use lib.ListN.{length-map}
+use lib.IntN.{ℤ, pos}
+use mir.Syntax.{w32}
+use mir.Val.{SFits}
+use mir.Facts.{toZ-ofZ}
+use Rattle.replay.specs.Puts.{puts-length, puts-then, puts-same}
 use borrow.Author.Needs.{needs}
 use Rattle.exports.proofs.put_reply.Statement.{statement}
 use Rattle.exports.proofs.put_reply.Tie as tie
-use Rattle.exports.proofs.put_reply.Reads as reads
-use Rattle.exports.proofs.put_reply.Lts as lts
-use Rattle.replay.proofs.put_bytes.Reads as put-bytes-reads
-use Rattle.replay.proofs.put_refusal.Reads as put-refusal-reads
-use Rattle.replay.proofs.put_signed.Reads as put-signed-reads
 
--- src/lib.rt:39:9
 put-refusal-requires : tie.Need-put-refusal-requires
 put-refusal-requires c κs = search needs
 
--- src/lib.rt:41:55
 slice-aggregate-put-signed : tie.Need-slice-aggregate-put-signed
 slice-aggregate-put-signed c = search needs
 
--- src/lib.rt:41:9
 put-signed-requires : tie.Need-put-signed-requires
 put-signed-requires c κs = search needs
 
--- src/lib.rt:43:42
 slice-aggregate-put-bytes : tie.Need-slice-aggregate-put-bytes
 slice-aggregate-put-bytes c = search needs
 
--- src/lib.rt:43:5
 put-bytes-requires : tie.Need-put-bytes-requires
-put-bytes-requires c κs = ?
+put-bytes-requires c κs = let e = c .before .before .before .before .before .before .before .before .before .put-refusal .ensures in let f = c .before .before .before .before .put-signed .ensures in omega (arith, slice-aggregate-put-bytes c, e .next-is, f .next-is, puts-length e, puts-length f, c .before .before .before .before .before .before .before .before .before .before .before .pre)
 
--- src/lib.rt:34:1
 same-length : tie.Need-same-length
 same-length c = search needs
 
--- src/lib.rt:34:1
 returns : tie.Need-returns
-returns c = ?
+returns c =
+    let found = c .before .before .before .before .before .before .before .before .before .before .before .before .before .args .found in
+    let f : SFits w32 (found .value) = search needs in
+    let u = puts-then (puts-then (c .before .before .before .before .before .before .before .before .before .before .before .put-refusal .ensures) (puts-same (ap (λ (z : ℤ). z ∷ []) (toZ-ofZ f)) (c .before .before .before .before .before .before .put-signed .ensures))) (c .before .put-bytes .ensures) in
+    (omega (arith, u .next-is, length-map (found .text) pos, slice-aggregate-put-bytes (c .before .before)), u .behind-is)
 
 pub put-reply-spec : {M : Type 1} → statement M
 put-reply-spec =
