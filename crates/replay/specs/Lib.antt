@@ -6,3 +6,4 @@ pub mod FaultLaws
 pub mod RunLaws
 pub mod LoopLaws
 pub mod WholeLaws
+pub mod ReplayHistory
