@@ -1,2 +1,4 @@
+-- definitions
 pub mod Exports
+-- laws for the proofs of the code
 pub mod Laws
