@@ -213,5 +213,12 @@ int main(int argc, char **argv)
     printf("| 64 nodes | us | LEMON's tree, us | ratio | igraph's tree, us | ratio |\n|---|---|---|---|---|---|\n");
     report("dense, 256 links", full);
     report("sparse, 93 links", thin);
+    // the longest file with a byte behind it: read to its end and refused there
+    std::vector<Link> links;
+    for (int k = 0; k < 256; k++) links.push_back({k % 63, 63, 1000000u - k});
+    Net longest = finish(64, links);
+    longest.file.push_back(0);
+    std::vector<Net> many(200, longest);
+    printf("| reading 1,283 bytes | %.2f | | | | |\n", micros(many.size(), 15, [&] { open_all(many); }));
     return 0;
 }
