@@ -1,13 +1,17 @@
 // The steps that can be kept as one capacity changes (document 01, "The plan and its changes"), and a step's cut: kept, or worked out.
 use crate::StepCut;
+use max_flow::HINTS;
+use max_flow::TABLE;
 use max_flow::least_cut_by;
-use network::Incidence;
+use network::MAX_ARCS;
+use network::MAX_LINKS;
 use network::MAX_NODES;
-use network::Network;
 use node_set::contains;
 ghost use mathlib.Core.Path.{_≡_};
 ghost use Prim.Native.Nat.{_-_, _≤_};
+ghost use Rattle.max_flow.specs.Residuals.{fullResidual};
 ghost use Rattle.max_flow.specs.Search.{Ready};
+ghost use Rattle.network.specs.declared.Network.{Network};
 ghost use Rattle.cut_tree.specs.RebuildParts.{OfNodes, crossed, survived, keptBy, keptCut, taken};
 
 // A link between a and b whose capacity goes from `old` to `new`.
@@ -82,23 +86,41 @@ fn kept_cut(h: Change, o: OldStep) -> StepCut
     }
 }
 
+// A hint: what the recorded side is worth after the change.
+fn expected(h: Change, o: OldStep) -> u32
+    requires { ⌜ OfNodes h ⌝ }
+{
+    if !crosses(h, o) {
+        return o.value;
+    }
+    if h.new <= h.old {
+        return o.value;
+    }
+    std::num::wrapping_add_u32(o.value, h.new - h.old)
+}
+
 // The cut of step s, whose pivot is now t: the recorded one where it is kept, else worked out on the new capacities.
+// The network is named in the contract, and not handed over: only what its cuts share.
 pub fn take(
-    net: Network,
-    arcs: Incidence,
-    near: [u64; MAX_NODES],
+    full: &[[u32; 2]; MAX_LINKS],
+    first: &[u16; MAX_NODES],
+    next: &[u16; MAX_ARCS],
+    to: &[u8; MAX_ARCS],
+    table: &[u16; TABLE],
+    start: &[u64; HINTS],
     h: Change,
     o: OldStep,
     s: usize,
     t: usize,
 ) -> StepCut
-    requires { ⌜ OfNodes h × Ready net (arcs .first) (arcs .next) (arcs .to) s t ⌝ }
-    ensures { λ r. ⌜ r ≡ taken net h o s t ⌝ }
+    requires { ⌜ OfNodes h ⌝ }
+    requires { ⌜ ((net : Network) × Ready net (now first) (now next) (now to) s t × (now full ≡ fullResidual net)) ⌝ }
+    ensures { λ r. ⌜ ((net : Network) → Ready net (now (first .entry)) (now (next .entry)) (now (to .entry)) s t → now (full .entry) ≡ fullResidual net → r ≡ taken net h o s t) ⌝ }
 {
     if keeps(h, o, t) {
         return kept_cut(h, o);
     }
-    let cut = least_cut_by(net, arcs, near, s, t);
+    let cut = least_cut_by(full, first, next, to, table, start, s, t, expected(h, o));
     StepCut {
         side: cut.side,
         value: cut.value,

@@ -1,12 +1,15 @@
 // The tree of a network, and the tree worked out again after a change of one capacity: one loop serves both.
 use crate::Built;
 use crate::Steps;
+use crate::Tree;
 use crate::keep::Change;
 use crate::keep::OldStep;
 use crate::keep::take;
-use crate::rule::step;
-use crate::rule::unbuilt;
-use max_flow::neighbours;
+use crate::rule::place;
+use max_flow::TABLE;
+use max_flow::fill_table;
+use max_flow::full_residual;
+use max_flow::start_hints;
 use network::MAX_NODES;
 use network::Network;
 use network::incidence_of;
@@ -25,24 +28,50 @@ fn worked_out(net: Network, steps: Steps, h: Change) -> Built
     requires { ⌜ (networkFits net ≡ true) × OfNodes h ⌝ }
     ensures { λ r. ⌜ r ≡ workedOut net steps h ⌝ }
 {
-    let n = net.nodes;
     let arcs = incidence_of(net);
-    let near = neighbours(net);
-    let mut b = unbuilt();
+    let first = arcs.first;
+    let next = arcs.next;
+    let to = arcs.to;
+    let start = start_hints(net);
+    let mut table = [0u16; TABLE];
+    fill_table(net, &mut table);
+    let full = full_residual(net);
+    let mut parent = [0u8; MAX_NODES];
+    let mut weight = [0u32; MAX_NODES];
+    let mut pivot = [0u8; MAX_NODES];
+    let mut side = [0u64; MAX_NODES];
+    let mut value = [0u32; MAX_NODES];
+    let mut count: u32 = 0;
     let mut s: usize = 1;
-    while s < n {
-        let tree = b.tree;
-        let t = tree.parent[s] as usize;
+    while s < net.nodes {
+        let t = parent[s] as usize;
         let o = OldStep {
             pivot: steps.pivot[s] as usize,
             side: steps.side[s],
             value: steps.value[s],
         };
-        let x = take(net, arcs, near, h, o, s, t);
-        b = step(b, s, t, x);
+        let x = take(&full, &first, &next, &to, &table, &start, h, o, s, t);
+        place(&mut parent, &mut weight, s, t, x.side, x.value);
+        pivot[s] = t as u8;
+        side[s] = x.side;
+        value[s] = x.value;
+        count += x.anew;
         s += 1;
     }
-    b
+    let tree = Tree {
+        parent: parent,
+        weight: weight,
+    };
+    let made = Steps {
+        pivot: pivot,
+        side: side,
+        value: value,
+    };
+    Built {
+        tree: tree,
+        steps: made,
+        count: count,
+    }
 }
 
 // The tree as link k of `net` goes to capacity d, by the recorded steps.

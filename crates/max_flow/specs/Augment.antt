@@ -45,7 +45,7 @@ module _ {net : Network} {s t : ℕ} (a : Endpoints net s t) where
   flowing-start r e = rw e (record { balanced = full-balanced net (a .fits); flow = full-flow net (a .fits) s t })
 
   -- by the side of s alone
-  flow-le : {v : ℕ} {r : List (List ℕ)} → Flowing net s t v r → v ≤ maxValue
+  pub flow-le : {v : ℕ} {r : List (List ℕ)} → Flowing net s t v r → v ≤ maxValue
   flow-le {v} {r} f =
       omega (
         arith,

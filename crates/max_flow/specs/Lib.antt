@@ -2,12 +2,12 @@ pub mod LeastCut
 pub mod LargestFlow
 pub mod Residuals
 pub mod ResidualLaws
-pub mod Neighbours
 pub mod Search
 pub mod SearchLaws
 pub mod Scan
 pub mod Push
 pub mod Augment
+pub mod Send
 pub mod Signed
 pub mod LinkFlows
 pub mod AnswerLaws

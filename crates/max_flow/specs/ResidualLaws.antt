@@ -6,7 +6,7 @@ use mathlib.Core.List.{List, [], _∷_}
 use Prim.Native.Nat.{ℕ, zero, suc, _+_, _*_, _/_, _%_, _<_, _≤_}
 use native.Mathlib.Omega.{arith}
 use native.Mathlib.Decide.{ℕ-discrete}
-use lib.ListN.{getD, set, length, length-set, length-replicate}
+use lib.ListN.{getD, set, length, length-set, length-replicate, getD-replicate}
 use lib.Seq.{getD-set-same, getD-set-other}
 use borrow.Author.Tests.{eqb-true, eqb-false}
 use Rattle.min_cut.specs.Sum.{sum-ext}
@@ -45,11 +45,17 @@ module _ (net : Network) where
       go (yes e) ih = rw e (getD-set-same (fullUpTo net k) k _ [] (omega (arith, full-long k)))
       go (no n) ih = getD-set-other (fullUpTo net k) k j _ [] n ∙ ih (omega arith)
 
+  full-rest : (k j : ℕ) → k ≤ j → j < maxLinks → getD (fullUpTo net k) j [] ≡ 0 ∷ 0 ∷ []
+  unfolding fullUpTo
+  full-rest zero j l m = let row : List ℕ = 0 ∷ 0 ∷ [] in getD-replicate maxLinks j row [] m
+  full-rest (suc k) j l m = getD-set-other (fullUpTo net k) k j _ [] (λ e. omega arith) ∙ full-rest k j (omega arith) m
+
   pub full-balanced : networkFits net ≡ true → Balanced net (fullResidual net)
   full-balanced h =
       record {
         long = full-long (net .links);
         both = λ k l. rw (full-at (net .links) k l (links-le net h)) (omega arith);
+        none = λ k l m. rw (full-rest (net .links) k l m) refl;
       }
 
   pub full-flow : networkFits net ≡ true → (s t : ℕ) → ResidualFlow (graph net) s t 0 (ahead (fullResidual net)) (back (fullResidual net))
@@ -108,6 +114,7 @@ module _ {net : Network} {r : List (List ℕ)} (h : networkFits net ≡ true) (b
       record {
         long = length-set r k _ ∙ b .long;
         both = λ i il. go (forward e) dl i il (ℕ-discrete i k);
+        none = λ i il im. rw (other _ i (λ q. omega (arith, kl))) (b .none i il im);
       }
     where
       go : (f : Bool) → d ≤ cond f (ahead r k) (back r k) → (i : ℕ) → i < net .links → Dec (i ≡ k)

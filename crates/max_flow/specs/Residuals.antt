@@ -2,7 +2,7 @@
 use mathlib.Core.Path.{_≡_}
 use mathlib.Core.Bool.{Bool, true, false}
 use mathlib.Core.List.{List, [], _∷_}
-use Prim.Native.Nat.{ℕ, zero, suc, _+_, _-_, _*_, _/_, _<_}
+use Prim.Native.Nat.{ℕ, zero, suc, _+_, _-_, _*_, _/_, _<_, _≤_}
 use lib.ListN.{getD, set, length, replicate}
 use Rattle.min_cut.specs.Arcs.{room, forward}
 use Rattle.network.specs.Basics.{at}
@@ -37,7 +37,8 @@ fullUpTo net (suc k) = set (fullUpTo net k) k (at (net .capacity) k ∷ at (net 
 abbrev pub fullResidual : Network → List (List ℕ)
 fullResidual net = fullUpTo net (net .links)
 
--- the two of each link are together twice its capacity, whatever is sent
+-- the two of each link are together twice its capacity, whatever is sent; unused rows are 0
 pub record Balanced (net : Network) (r : List (List ℕ)) : Type 0 where
   pub long : length r ≡ maxLinks
   pub both : (k : ℕ) → k < net .links → ahead r k + back r k ≡ 2 * at (net .capacity) k
+  pub none : (k : ℕ) → net .links ≤ k → k < maxLinks → ahead r k + back r k ≡ 0

@@ -1,53 +1,26 @@
-// Residual capacities (document 01: each link has two spare capacities, one each way), and flow sent along one path after another.
+// Flow sent from s to t until no search reaches t: in phases as far as the hints lead, then along a path that a search finds.
 use crate::Cut;
-use crate::hints::note_sent;
-use crate::hints::sweep;
+use crate::hints::HINTS;
+use crate::hints::TABLE;
+use crate::hints::note_way;
+use crate::residual::row_after;
 use crate::search::SearchTree;
 use crate::search::search;
-use network::Incidence;
+use crate::send::send_all;
+use network::MAX_ARCS;
 use network::MAX_LINKS;
 use network::MAX_NODES;
-use network::Network;
 use node_set::contains;
-ghost use mathlib.Core.Bool.{true, cond};
 ghost use mathlib.Core.Path.{_≡_};
-ghost use Prim.Native.Nat.{ℕ, _+_, _*_, _≤_};
+ghost use Prim.Native.Nat.{ℕ};
 ghost use Rattle.max_flow.specs.Augment.{Augmented};
 ghost use Rattle.max_flow.specs.Push.{Sending, Sent};
-ghost use Rattle.max_flow.specs.Residuals.{fullResidual, rowAfter};
+ghost use Rattle.max_flow.specs.Residuals.{fullResidual};
 ghost use Rattle.max_flow.specs.Search.{Ready};
-ghost use Rattle.min_cut.specs.Arcs.{forward};
-ghost use Rattle.network.specs.Limits.{maxCapacity};
-ghost use Rattle.network.specs.Network.{networkFits};
-
-// Nothing is sent yet: each link may take its capacity each way.
-pub fn full_residual(net: Network) -> [[u32; 2]; MAX_LINKS]
-    requires { ⌜ networkFits net ≡ true ⌝ }
-    ensures { λ r. ⌜ r ≡ fullResidual net ⌝ }
-{
-    let m = net.links;
-    let mut residual = [[0u32; 2]; MAX_LINKS];
-    for k in 0..m {
-        let c = net.capacity[k];
-        let row = [c, c];
-        residual[k] = row;
-    }
-    residual
-}
-
-// a link's residual capacities x and y after d more is sent along arc e of it: what is taken from one way is added to the other
-fn row_after(x: u32, y: u32, e: usize, d: u32) -> [u32; 2]
-    requires { ⌜ (d ≤ cond (forward e) x y) × (x + y ≤ 2 * maxCapacity) ⌝ }
-    ensures { λ r. ⌜ r ≡ rowAfter (forward e) x y d ⌝ }
-{
-    if e % 2 == 0 {
-        return [x - d, y + d];
-    }
-    [x + d, y - d]
-}
+ghost use Rattle.network.specs.declared.Network.{Network};
 
 // What can be sent to the node reached last is sent to it from the first, link by link along the tree; how much that is.
-fn push(tree: SearchTree, into: &mut [u64; MAX_NODES], residual: &mut [[u32; 2]; MAX_LINKS]) -> u32
+fn push(tree: SearchTree, hints: &mut [u64; HINTS], residual: &mut [[u32; 2]; MAX_LINKS]) -> u32
     requires { ⌜ ((net : Network) × (s : ℕ) × Sending net s (now residual) tree) ⌝ }
     ensures { λ r. ⌜ ((net : Network) (s : ℕ) → Sending net s (now (residual .entry)) tree → Sent net s (now (residual .entry)) tree r (now (residual .exit))) ⌝ }
 {
@@ -63,39 +36,40 @@ fn push(tree: SearchTree, into: &mut [u64; MAX_NODES], residual: &mut [[u32; 2];
         let y = residual[k][1];
         let row = row_after(x, y, e, d);
         residual[k] = row;
-        note_sent(into, u, v, row[e % 2]);
+        note_way(hints, u, v);
         i = f;
     }
     d
 }
 
-// Flow is sent along one augmenting path after another until no search reaches t. What was reached then is the least minimum cut.
-// `near` is a hint. The network whose arcs and residual capacities these are is named in the contract, and not handed over.
+// Flow is sent until no search reaches t. What was reached then is the least minimum cut. The table, the hints to start with and the goal are hints.
+// The network whose arcs and residual capacities these are is named in the contract, and not handed over.
 pub fn augment(
-    arcs: Incidence,
-    near: [u64; MAX_NODES],
+    first: &[u16; MAX_NODES],
+    next: &[u16; MAX_ARCS],
+    to: &[u8; MAX_ARCS],
+    table: &[u16; TABLE],
+    start: &[u64; HINTS],
     residual: &mut [[u32; 2]; MAX_LINKS],
     s: usize,
     t: usize,
+    goal: u32,
 ) -> Cut
-    requires { ⌜ ((net : Network) × Ready net (arcs .first) (arcs .next) (arcs .to) s t × (now residual ≡ fullResidual net)) ⌝ }
-    ensures { λ r. ⌜ ((net : Network) → Ready net (arcs .first) (arcs .next) (arcs .to) s t → now (residual .entry) ≡ fullResidual net → Augmented net s t r (now (residual .exit))) ⌝ }
+    requires { ⌜ ((net : Network) × Ready net (now first) (now next) (now to) s t × (now residual ≡ fullResidual net)) ⌝ }
+    ensures { λ r. ⌜ ((net : Network) → Ready net (now (first .entry)) (now (next .entry)) (now (to .entry)) s t → now (residual .entry) ≡ fullResidual net → Augmented net s t r (now (residual .exit))) ⌝ }
 {
-    let first = arcs.first;
-    let next = arcs.next;
-    let to = arcs.to;
-    let mut into = near;
-    let mut closer = [0u64; MAX_NODES];
+    let mut hints = *start;
+    let closer = [0u64; MAX_NODES];
     let mut total: u32 = 0;
     loop {
-        let level = sweep(&into, s, t, &mut closer);
-        let tree = search(&first, &next, &to, *residual, s, t, &closer, level);
+        total = total + send_all(to, table, &mut hints, residual, s, t, goal);
+        let tree = search(first, next, to, *residual, s, t, &closer, 0);
         if !contains(tree.reached, t) {
             return Cut {
                 side: tree.reached,
                 value: total,
             };
         }
-        total = total + push(tree, &mut into, residual);
+        total = total + push(tree, &mut hints, residual);
     }
 }

@@ -44,7 +44,7 @@ fn seed(s: usize) -> SearchTree
     }
 }
 
-fn lesser(a: u32, b: u32) -> u32
+pub fn lesser(a: u32, b: u32) -> u32
     ensures { λ r. ⌜ r ≡ lesserOf a b ⌝ }
 {
     if a <= b {

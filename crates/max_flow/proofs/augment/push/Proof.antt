@@ -10,11 +10,11 @@ use Rattle.max_flow.proofs.augment.push.Statement.{statement}
 use Rattle.max_flow.proofs.augment.push.Tie as tie
 
 abbrev Inv-loop : tie.InvT-loop
-Inv-loop into₀ residual₀ tree i₀ d into residual i =
+Inv-loop hints₀ residual₀ tree i₀ d hints residual i =
     (net : Network) (s : ℕ) → Sending net s residual₀ tree → Half net residual₀ tree d i residual
 
 abbrev μ-loop : tie.MeasureT-loop
-μ-loop into₀ residual₀ tree i₀ d into residual i = i
+μ-loop hints₀ residual₀ tree i₀ d hints residual i = i
 
 -- what the code relies on at the place at hand
 on : (c : tie.In-loop Inv-loop μ-loop) → OnPath (c .before .before .before .args .t1) (most (c .before .before .before .args .t1)) (c .before .loop .i) (c .before .loop .residual)
@@ -82,20 +82,14 @@ index-2-y c = search needs
 row-after-requires : tie.Need-row-after-requires Inv-loop μ-loop
 row-after-requires c κs = on (c .before .before .before .before .before .before) .row
 
-mul-t20 : tie.Need-mul-t20 Inv-loop μ-loop
-mul-t20 c = omega (arith, on (c .before .before .before .before .before .before .before) .arc)
+mul-row : tie.Need-mul-row Inv-loop μ-loop
+mul-row c = omega (arith, on (c .before .before .before .before .before .before .before) .arc)
 
-element-set-from-residual : tie.Need-element-set-from-residual Inv-loop μ-loop
-element-set-from-residual c = omega (arith, on (c .before .before .before .before .before .before .before) .arc)
+element-set-from-row : tie.Need-element-set-from-row Inv-loop μ-loop
+element-set-from-row c = omega (arith, on (c .before .before .before .before .before .before .before) .arc)
 
-mul-note-sent : tie.Need-mul-note-sent Inv-loop μ-loop
-mul-note-sent c = search needs
-
-array-read-note-sent : tie.Need-array-read-note-sent Inv-loop μ-loop
-array-read-note-sent c = search needs
-
-note-sent-requires : tie.Need-note-sent-requires Inv-loop μ-loop
-note-sent-requires c κs = (on (c .before .before .before .before .before .before .before .before) .tail, on (c .before .before .before .before .before .before .before .before) .tip)
+note-way-requires : tie.Need-note-way-requires Inv-loop μ-loop
+note-way-requires c κs = (on (c .before .before .before .before .before .before .before .before) .tail, on (c .before .before .before .before .before .before .before .before) .tip)
 
 loop-less : tie.Need-loop-less Inv-loop μ-loop
 loop-less c = on (c .before .before .before .before .before .before .before .before .before) .earlier
@@ -134,11 +128,9 @@ push-spec =
     index-1-y
     index-2-y
     row-after-requires
-    mul-t20
-    element-set-from-residual
-    mul-note-sent
-    array-read-note-sent
-    note-sent-requires
+    mul-row
+    element-set-from-row
+    note-way-requires
     loop-less
     loop-again
     returns)

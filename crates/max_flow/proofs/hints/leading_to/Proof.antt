@@ -7,10 +7,10 @@ use Rattle.max_flow.proofs.hints.leading_to.Statement.{statement}
 use Rattle.max_flow.proofs.hints.leading_to.Tie as tie
 
 abbrev Inv-loop : tie.InvT-loop
-Inv-loop into ring all₀ rest₀ all rest = 0 ≤ rest
+Inv-loop hints ring all₀ rest₀ all rest = 0 ≤ rest
 
 abbrev μ-loop : tie.MeasureT-loop
-μ-loop into ring all₀ rest₀ all rest = rest
+μ-loop hints ring all₀ rest₀ all rest = rest
 
 loop-holds : tie.Need-loop-holds Inv-loop μ-loop
 loop-holds c = omega arith
@@ -20,6 +20,9 @@ lowest-requires c κs = omega arith
 
 sub-rest : tie.Need-sub-rest Inv-loop μ-loop
 sub-rest c = omega arith
+
+add-union : tie.Need-add-union Inv-loop μ-loop
+add-union c = search needs
 
 mul-union : tie.Need-mul-union Inv-loop μ-loop
 mul-union c = search needs
@@ -50,6 +53,7 @@ leading-to-spec =
     loop-holds
     lowest-requires
     sub-rest
+    add-union
     mul-union
     element-copy-out-union
     union-requires

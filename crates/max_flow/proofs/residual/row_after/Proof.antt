@@ -1,8 +1,8 @@
 -- `row_after` takes d from one way and adds it to the other.
 use native.Mathlib.Omega.{arith}
 use borrow.Author.Tests.{eq-eqb, ne-eqb}
-use Rattle.max_flow.proofs.augment.row_after.Statement.{statement}
-use Rattle.max_flow.proofs.augment.row_after.Tie as tie
+use Rattle.max_flow.proofs.residual.row_after.Statement.{statement}
+use Rattle.max_flow.proofs.residual.row_after.Tie as tie
 
 sub-t7 : tie.Need-sub-t7
 sub-t7 c = rw (eq-eqb _ _ (c .if1 .taken)) at (c .before .pre .0)

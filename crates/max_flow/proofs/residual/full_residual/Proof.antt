@@ -7,8 +7,8 @@ use native.Mathlib.Numerals.{add-one}
 use Rattle.network.specs.Limits.{maxLinks}
 use Rattle.network.specs.NetworkLaws.{links-le}
 use Rattle.max_flow.specs.Residuals.{fullUpTo}
-use Rattle.max_flow.proofs.augment.full_residual.Statement.{statement}
-use Rattle.max_flow.proofs.augment.full_residual.Tie as tie
+use Rattle.max_flow.proofs.residual.full_residual.Statement.{statement}
+use Rattle.max_flow.proofs.residual.full_residual.Tie as tie
 
 abbrev Inv-loop : tie.InvT-loop
 Inv-loop net m residual₀ k₀ residual k = (k ≤ m) × (residual ≡ fullUpTo net k)
