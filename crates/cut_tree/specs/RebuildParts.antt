@@ -1,5 +1,7 @@
--- What the contracts of a rebuild's parts cite; its own contract is `rebuilt`, and that of a first build `rule`. A step of the rule, and the
--- keeping test on the numbers that the code hands about: a changed link and a recorded step, without the network and the arrays.
+-- What the contracts of a rebuild's parts cite; its own contract is `rebuilt`, and that of a first build `rule`. A step
+-- of the rule, and the
+-- keeping test on the numbers that the code hands about: a changed link and a recorded step, without the network and
+-- the arrays.
 use Prim.Native.Nat.{ℕ, _+_, _-_, _≤_, _<_}
 use mathlib.Core.Path.{_≡_}
 use mathlib.Core.Bool.{Bool, true, false, _&&_}

@@ -27,8 +27,11 @@ pub moved-not : (p s t : ℕ) → (p ≡ t → ⊥) → p ≡ movedOne p s t
 moved-not p s t n = rw (ne-eqb p t n)
 
 -- i is moved, and is no longer to go
-moved-less : (p : List ℕ) (x i s t : ℕ) → holds x i ≡ true → moved (removed x i) s t 0 (set p i (movedOne (at p i) s t)) ≡ moved x s t 0 p
-moved-less p x i s t h = ext-getD 0 (moved y s t 0 q) (moved x s t 0 p) (length-moved y s t 0 q ∙ length-set p i v ∙ sym (length-moved x s t 0 p)) each
+moved-less : (p : List ℕ) (x i s t : ℕ) → holds x i ≡ true
+    → moved (removed x i) s t 0 (set p i (movedOne (at p i) s t)) ≡ moved x s t 0 p
+moved-less p x i s t h =
+    ext-getD 0 (moved y s t 0 q) (moved x s t 0 p)
+    (length-moved y s t 0 q ∙ length-set p i v ∙ sym (length-moved x s t 0 p)) each
   where
     v : ℕ
     v = movedOne (at p i) s t
@@ -45,7 +48,8 @@ moved-less p x i s t h = ext-getD 0 (moved y s t 0 q) (moved x s t 0 p) (length-
         let lq : j < length q = omega (arith, length-moved y s t 0 q) in
         moved-at y s t 0 q j lq ∙ go lp (ℕ-discrete j i) ∙ sym (moved-at x s t 0 p j lp)
       where
-        go : j < length p → Dec (j ≡ i) → pick (holds y (0 + j) && eqb (at q j) t) s (at q j) ≡ pick (holds x (0 + j) && eqb (at p j) t) s (at p j)
+        go : j < length p → Dec (j ≡ i)
+            → pick (holds y (0 + j) && eqb (at q j) t) s (at q j) ≡ pick (holds x (0 + j) && eqb (at p j) t) s (at p j)
         go lp (yes e) =
             let o : 0 + i ≡ i = omega arith in
             let li : i < length p = rw e at lp in
@@ -55,14 +59,16 @@ moved-less p x i s t h = ext-getD 0 (moved y s t 0 q) (moved x s t 0 p) (length-
             rw (o, removed-other x i j n, getD-set-other p i j v 0 n)
 
 -- a turn of the loop
-pub moving-next : (p : List ℕ) (x i s t y v : ℕ) (r : List ℕ) → holds x i ≡ true → v ≡ movedOne (at p i) s t → y ≡ removed x i
+pub moving-next : (p : List ℕ) (x i s t y v : ℕ) (r : List ℕ) → holds x i ≡ true → v ≡ movedOne (at p i) s t
+    → y ≡ removed x i
     → moved x s t 0 p ≡ r → moved y s t 0 (set p i v) ≡ r
 moving-next p x i s t y v r h ev ey g = rw (ev, ey) (moved-less p x i s t h ∙ g)
 
 moved-none : (s t i : ℕ) (ps : List ℕ) → moved 0 s t i ps ≡ ps
 unfolding moved
 moved-none s t i [] = refl
-moved-none s t i (p ∷ ps) = rw (holds-out 0 0 i (omega arith) (omega arith)) (ap (λ (qs : List ℕ). p ∷ qs) (moved-none s t (suc i) ps))
+moved-none s t i (p ∷ ps) =
+    rw (holds-out 0 0 i (omega arith) (omega arith)) (ap (λ (qs : List ℕ). p ∷ qs) (moved-none s t (suc i) ps))
 
 pub moving-end : (p : List ℕ) (x s t : ℕ) (r : List ℕ) → x ≡ 0 → moved x s t 0 p ≡ r → p ≡ r
 moving-end p x s t r e g = sym (moved-none s t 0 p) ∙ (rw e at g)
@@ -87,12 +93,15 @@ module _ (parent weight pivot side value : List ℕ) (count s t : ℕ) (x : Step
   abbrev z : Bool
   z = holds (x .side) (at parent t)
 
-  pub stepped-by : (ps ws : List ℕ) → ps ≡ placedParents z parent s t (x .side) → ws ≡ placedWeights z weight s t (x .value)
-      → builtOf ps ws (set pivot s t) (set side s (x .side)) (set value s (x .value)) (count + x .anew) ≡ stepped (builtOf parent weight pivot side value count) s t x
+  pub stepped-by : (ps ws : List ℕ) → ps ≡ placedParents z parent s t (x .side)
+      → ws ≡ placedWeights z weight s t (x .value)
+      → builtOf ps ws (set pivot s t) (set side s (x .side)) (set value s (x .value)) (count + x .anew) ≡ stepped
+      (builtOf parent weight pivot side value count) s t x
   unfolding stepped
   stepped-by ps ws e f = rw (e, f) (go z)
     where
-      go : (y : Bool) → builtOf (placedParents y parent s t (x .side)) (placedWeights y weight s t (x .value)) (set pivot s t) (set side s (x .side)) (set value s (x .value)) (count + x .anew)
+      go : (y : Bool)
+          → builtOf (placedParents y parent s t (x .side)) (placedWeights y weight s t (x .value)) (set pivot s t) (set side s (x .side)) (set value s (x .value)) (count + x .anew)
           ≡ record {
             tree = placed y (record { parent = parent; weight = weight }) s t (x .side) (x .value);
             steps = recorded (record { pivot = pivot; side = side; value = value }) s t (x .side) (x .value);

@@ -1,7 +1,8 @@
-// The steps that can be kept as one capacity changes (document 01, "The plan and its changes"), and a step's cut: kept, or worked out.
+// The steps that can be kept as one capacity changes (document 01, "The plan and its changes"), and a step's cut: kept,
+// or worked out.
 use crate::StepCut;
-use max_flow::HINTS;
-use max_flow::TABLE;
+use flow_hints::HINTS;
+use flow_hints::TABLE;
 use max_flow::least_cut_by;
 use network::MAX_ARCS;
 use network::MAX_LINKS;
@@ -37,8 +38,8 @@ fn crosses(h: Change, o: OldStep) -> bool
     contains(o.side, h.a) != contains(o.side, h.b)
 }
 
-// Whether the cut of a step survives the change: the capacity is equal; or it rises and the side does not cross the link; or it falls, the
-// side crosses the link and its value is at least the fall.
+// Whether the cut of a step survives the change: the capacity is equal; or it rises and the side does not cross the
+// link; or it falls, the side crosses the link and its value is at least the fall.
 fn survives(h: Change, o: OldStep) -> bool
     requires { ⌜ OfNodes h ⌝ }
     ensures { λ r. ⌜ r ≡ survived h o ⌝ }
@@ -86,19 +87,6 @@ fn kept_cut(h: Change, o: OldStep) -> StepCut
     }
 }
 
-// A hint: what the recorded side is worth after the change.
-fn expected(h: Change, o: OldStep) -> u32
-    requires { ⌜ OfNodes h ⌝ }
-{
-    if !crosses(h, o) {
-        return o.value;
-    }
-    if h.new <= h.old {
-        return o.value;
-    }
-    std::num::wrapping_add_u32(o.value, h.new - h.old)
-}
-
 // The cut of step s, whose pivot is now t: the recorded one where it is kept, else worked out on the new capacities.
 // The network is named in the contract, and not handed over: only what its cuts share.
 pub fn take(
@@ -115,12 +103,15 @@ pub fn take(
 ) -> StepCut
     requires { ⌜ OfNodes h ⌝ }
     requires { ⌜ ((net : Network) × Ready net (now first) (now next) (now to) s t × (now full ≡ fullResidual net)) ⌝ }
-    ensures { λ r. ⌜ ((net : Network) → Ready net (now (first .entry)) (now (next .entry)) (now (to .entry)) s t → now (full .entry) ≡ fullResidual net → r ≡ taken net h o s t) ⌝ }
+    ensures { λ r. ⌜ ((net : Network)
+        → Ready net (now (first .entry)) (now (next .entry)) (now (to .entry)) s t
+        → now (full .entry) ≡ fullResidual net
+        → r ≡ taken net h o s t) ⌝ }
 {
     if keeps(h, o, t) {
         return kept_cut(h, o);
     }
-    let cut = least_cut_by(full, first, next, to, table, start, s, t, expected(h, o));
+    let cut = least_cut_by(full, first, next, to, table, start, s, t);
     StepCut {
         side: cut.side,
         value: cut.value,

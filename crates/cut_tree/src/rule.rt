@@ -27,7 +27,8 @@ fn move_nodes(parent: &mut [u8; MAX_NODES], x: u64, s: u8, t: u8)
     }
 }
 
-// Node s, of pivot t and a cut x of value w, is placed: beside t; or, where x holds the parent of t, between that parent and t.
+// Node s, of pivot t and a cut x of value w, is placed: beside t; or, where x holds the parent of t, between that
+// parent and t.
 pub fn place(
     parent: &mut [u8; MAX_NODES],
     weight: &mut [u32; MAX_NODES],
@@ -37,8 +38,10 @@ pub fn place(
     w: u32,
 )
     requires { ⌜ (s < maxNodes) × (t < maxNodes) × (at (now parent) t < maxNodes) ⌝ }
-    ensures { λ _. ⌜ now (parent .exit) ≡ placedParents (holds x (at (now (parent .entry)) t)) (now (parent .entry)) s t x ⌝ }
-    ensures { λ _. ⌜ now (weight .exit) ≡ placedWeights (holds x (at (now (parent .entry)) t)) (now (weight .entry)) s t w ⌝ }
+    ensures { λ _. ⌜ now (parent .exit)
+        ≡ placedParents (holds x (at (now (parent .entry)) t)) (now (parent .entry)) s t x ⌝ }
+    ensures { λ _. ⌜ now (weight .exit)
+        ≡ placedWeights (holds x (at (now (parent .entry)) t)) (now (weight .entry)) s t w ⌝ }
 {
     let q = parent[t];
     move_nodes(parent, x, s as u8, t as u8);

@@ -6,10 +6,10 @@ use crate::keep::Change;
 use crate::keep::OldStep;
 use crate::keep::take;
 use crate::rule::place;
-use max_flow::TABLE;
-use max_flow::fill_table;
+use flow_hints::TABLE;
+use flow_hints::fill_table;
+use flow_hints::start_hints;
 use max_flow::full_residual;
-use max_flow::start_hints;
 use network::MAX_NODES;
 use network::Network;
 use network::incidence_of;
@@ -17,11 +17,38 @@ ghost use mathlib.Core.Bool.{true};
 ghost use mathlib.Core.Path.{_≡_};
 ghost use Rattle.network.specs.Network.{networkFits};
 ghost use Rattle.cut_tree.specs.Rebuild.{rebuilt};
-ghost use Rattle.cut_tree.specs.RebuildParts.{OfNodes, Changes, workedOut};
+ghost use Rattle.cut_tree.specs.RebuildParts.{OfNodes, Changes, builtOf, workedOut};
 ghost use Rattle.cut_tree.specs.Rule.{rule};
 
 // A pivot that is no node.
 const NO_NODE: u8 = 255;
+
+// A tree, its steps and a count, by their arrays.
+fn built(
+    parent: [u8; MAX_NODES],
+    weight: [u32; MAX_NODES],
+    pivot: [u8; MAX_NODES],
+    side: [u64; MAX_NODES],
+    value: [u32; MAX_NODES],
+    count: u32,
+) -> Built
+    ensures { λ r. ⌜ r ≡ builtOf parent weight pivot side value count ⌝ }
+{
+    let tree = Tree {
+        parent: parent,
+        weight: weight,
+    };
+    let steps = Steps {
+        pivot: pivot,
+        side: side,
+        value: value,
+    };
+    Built {
+        tree: tree,
+        steps: steps,
+        count: count,
+    }
+}
 
 // The tree of the rule on `net`, with the recorded steps that are kept. What the cuts share is made once.
 fn worked_out(net: Network, steps: Steps, h: Change) -> Built
@@ -58,20 +85,7 @@ fn worked_out(net: Network, steps: Steps, h: Change) -> Built
         count += x.anew;
         s += 1;
     }
-    let tree = Tree {
-        parent: parent,
-        weight: weight,
-    };
-    let made = Steps {
-        pivot: pivot,
-        side: side,
-        value: value,
-    };
-    Built {
-        tree: tree,
-        steps: made,
-        count: count,
-    }
+    built(parent, weight, pivot, side, value, count)
 }
 
 // The tree as link k of `net` goes to capacity d, by the recorded steps.

@@ -6,9 +6,9 @@ pub mod Search
 pub mod SearchLaws
 pub mod Scan
 pub mod Push
-pub mod Augment
-pub mod Send
 pub mod Signed
 pub mod LinkFlows
+pub mod Send
+pub mod Augment
 pub mod AnswerLaws
 pub mod Examples

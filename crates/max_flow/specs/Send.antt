@@ -14,30 +14,21 @@ use Rattle.min_cut.specs.Word.{holds}
 use Rattle.min_cut.specs.Residual.{Pushed, when, more}
 use Rattle.min_cut.specs.Arcs.{tail, tip, room, forward}
 use Rattle.network.specs.Basics.{at}
-use Rattle.network.specs.Limits.{maxArcs, maxLinks, maxCapacity}
-use Rattle.network.specs.NetworkLaws.{links-le}
+use Rattle.network.specs.Limits.{maxArcs}
 use Rattle.network.specs.Network.{networkFits, graph}
 use Rattle.network.specs.declared.Network.{Network}
 use Rattle.node_set.specs.Set.{added}
 use Rattle.node_set.specs.SetLaws.{added-same, added-keeps}
-use Rattle.max_flow.specs.Residuals.{ahead, back, roomOn, sentAlong, Balanced}
-use Rattle.max_flow.specs.ResidualLaws.{along-pushed, along-balanced, along-other, along-fits}
-use Rattle.max_flow.specs.Search.{lesserOf, Ready}
-use Rattle.max_flow.specs.Augment.{Flowing}
+use Rattle.max_flow.specs.Residuals.{lesserOf, ahead, back, roomOn, sentAlong, Balanced, Along, Flowing}
+use Rattle.max_flow.specs.ResidualLaws.{along-pushed, along-balanced, along-other}
+use Rattle.max_flow.specs.Search.{Ready}
 
 -- the arc back
 abbrev pub otherWay : ℕ → ℕ
 otherWay j = j + 1 - 2 * (j % 2)
 
--- d may be sent along arc j
-pub record Along (net : Network) (r : List (List ℕ)) (j d : ℕ) : Type 0 where
-  pub fits : networkFits net ≡ true
-  pub balanced : Balanced net r
-  pub here : j < 2 * net .links
-  pub room : d ≤ roomOn r j
-
 -- `to` is where the network's arcs lead, and r holds its residual capacities
-pub record Carried (net : Network) (to : List ℕ) (r : List (List ℕ)) : Type 0 where
+pub record Consistent (net : Network) (to : List ℕ) (r : List (List ℕ)) : Type 0 where
   pub fits : networkFits net ≡ true
   pub leads : (e : ℕ) → e < 2 * net .links → at to e ≡ tip (graph net) e
   pub balanced : Balanced net r
@@ -57,13 +48,6 @@ pub record Sends (net : Network) (t on u limit d : ℕ) (r r' : List (List ℕ))
   pub pushed : Pushed (graph net) u t d (ahead r) (back r) (ahead r') (back r')
   pub kept : (e : ℕ) → holds on (tip (graph net) e) ≡ true → roomOn r e ≤ roomOn r' e
 
-module _ {net : Network} {r : List (List ℕ)} {j d : ℕ} (a : Along net r j d) where
-  pub arc-lt : j < maxArcs
-  arc-lt = omega (arith, a .here, links-le net (a .fits))
-
-  pub along-row : (d ≤ cond (forward j) (ahead r (j / 2)) (back r (j / 2))) × (ahead r (j / 2) + back r (j / 2) ≤ 2 * maxCapacity)
-  along-row = along-fits (a .fits) (a .balanced) j d (a .here) (a .room)
-
 when-none : (x : Bool) → when x 0 ≡ 0
 when-none = bool1 _ (omega arith)
 
@@ -82,7 +66,8 @@ back-tip : (G : Net) (j : ℕ) → tip G (otherWay j) ≡ tail G j
 unfolding tip tail
 back-tip G j = go (ℕ-discrete (j % 2) 0)
   where
-    go : Dec (j % 2 ≡ 0) → cond (forward (otherWay j)) (G .b (otherWay j / 2)) (G .a (otherWay j / 2)) ≡ cond (forward j) (G .a (j / 2)) (G .b (j / 2))
+    go : Dec (j % 2 ≡ 0)
+        → cond (forward (otherWay j)) (G .b (otherWay j / 2)) (G .a (otherWay j / 2)) ≡ cond (forward j) (G .a (j / 2)) (G .b (j / 2))
     go (yes q) =
         let h : otherWay j / 2 ≡ j / 2 = omega arith in
         let o : otherWay j % 2 ≢ 0 = λ z. omega arith in
@@ -92,18 +77,22 @@ back-tip G j = go (ℕ-discrete (j % 2) 0)
         let o : otherWay j % 2 ≡ 0 = omega arith in
         rw (h, eq-eqb (otherWay j % 2) 0 o, ne-eqb (j % 2) 0 q)
 
-module _ {net : Network} {to : List ℕ} {r : List (List ℕ)} (a : Carried net to r) where
+module _ {net : Network} {to : List ℕ} {r : List (List ℕ)} (a : Consistent net to r) where
   -- what has room is an arc of the network
   arc-here : (j : ℕ) → j < maxArcs → 0 < roomOn r j → j < 2 * net .links
   unfolding room
   arc-here j l p = go (leb (net .links) (j / 2)) refl (forward j) p
     where
-      go : (o : Bool) → leb (net .links) (j / 2) ≡ o → (f : Bool) → 0 < cond f (ahead r (j / 2)) (back r (j / 2)) → j < 2 * net .links
-      go true q true z = absurd (omega (arith, a .balanced .none (j / 2) (leb-true (net .links) (j / 2) q) (omega arith)))
-      go true q false z = absurd (omega (arith, a .balanced .none (j / 2) (leb-true (net .links) (j / 2) q) (omega arith)))
+      go : (o : Bool) → leb (net .links) (j / 2) ≡ o → (f : Bool) → 0 < cond f (ahead r (j / 2)) (back r (j / 2))
+          → j < 2 * net .links
+      go true q true z =
+          absurd (omega (arith, a .balanced .none (j / 2) (leb-true (net .links) (j / 2) q) (omega arith)))
+      go true q false z =
+          absurd (omega (arith, a .balanced .none (j / 2) (leb-true (net .links) (j / 2) q) (omega arith)))
       go false q f z = omega (arith, leb-false (net .links) (j / 2) q)
 
-  pub way : (on u x j d : ℕ) → j < maxArcs → at to j ≡ x → at to (otherWay j) ≡ u → holds on x ≡ false → d ≡ roomOn r j → 0 < d → Way net r on u x j d
+  pub way : (on u x j d : ℕ) → j < maxArcs → at to j ≡ x → at to (otherWay j) ≡ u → holds on x ≡ false → d ≡ roomOn r j
+      → 0 < d → Way net r on u x j d
   way on u x j d l ex eu off e p =
       let h : j < 2 * net .links = arc-here j l (omega (arith, e)) in
       record {
@@ -115,8 +104,9 @@ module _ {net : Network} {to : List ℕ} {r : List (List ℕ)} (a : Carried net 
       }
 
 -- what is left after a call
-pub carried-next : {net : Network} {to : List ℕ} {t on u limit d : ℕ} {r r' : List (List ℕ)} → Carried net to r → Sends net t on u limit d r r' → Carried net to r'
-carried-next a o = record { fits = a .fits; leads = a .leads; balanced = o .balanced }
+pub consistent-next : {net : Network} {to : List ℕ} {t on u limit d : ℕ} {r r' : List (List ℕ)} → Consistent net to r
+    → Sends net t on u limit d r r' → Consistent net to r'
+consistent-next a o = record { fits = a .fits; leads = a .leads; balanced = o .balanced }
 
 lesser-le : (a b : ℕ) → (lesserOf a b ≤ a) × (lesserOf a b ≤ b)
 lesser-le a b = go (leb a b) refl
@@ -127,7 +117,8 @@ lesser-le a b = go (leb a b) refl
 
 -- ---- what is sent
 -- at t itself
-pub send-there : {net : Network} {t on limit : ℕ} {r : List (List ℕ)} → Balanced net r → Sends net t on t limit limit r r
+pub send-there : {net : Network} {t on limit : ℕ} {r : List (List ℕ)} → Balanced net r
+    → Sends net t on t limit limit r r
 send-there b = record { within = omega arith; balanced = b; pushed = λ X. refl; kept = λ e h. omega arith }
 
 module _ {net : Network} {t on u : ℕ} where
@@ -142,7 +133,8 @@ module _ {net : Network} {t on u : ℕ} where
       }
 
   -- more, of what is left of the limit
-  pub send-more : {limit sent left d : ℕ} {r r1 r2 : List (List ℕ)} → Sends net t on u limit sent r r1 → Sends net t on u left d r1 r2 → left ≡ limit - sent
+  pub send-more : {limit sent left d : ℕ} {r r1 r2 : List (List ℕ)} → Sends net t on u limit sent r r1
+      → Sends net t on u left d r1 r2 → left ≡ limit - sent
       → Sends net t on u limit (sent + d) r r2
   send-more {limit} {sent} {left} {d} o a q =
       record {
@@ -153,8 +145,9 @@ module _ {net : Network} {t on u : ℕ} where
       }
 
   -- by arc j to x, and on from there
-  module _ {x j room want d on' : ℕ} {r r1 : List (List ℕ)} (limit : ℕ) (f : networkFits net ≡ true) (y : 0 < room → Way net r on u x j room)
-      (e : want ≡ lesserOf room limit) (p : want ≢ 0) (q : on' ≡ added on x) (a : Sends net t on' x want d r r1) where
+  module _ {x j room want d on' : ℕ} {r r1 : List (List ℕ)} (limit : ℕ) (f : networkFits net ≡ true)
+      (y : 0 < room → Way net r on u x j room) (e : want ≡ lesserOf room limit) (p : want ≢ 0) (q : on' ≡ added on x)
+      (a : Sends net t on' x want d r r1) where
     w : Way net r on u x j room
     w = y (omega (arith, lesser-le room limit, e, p))
 
@@ -168,36 +161,46 @@ module _ {net : Network} {t on u : ℕ} where
     apart i h z = true≢false (sym h ∙ ap (λ k. holds on (tip (graph net) k)) z ∙ ap (holds on) (w .leads) ∙ w .off)
 
     one : Pushed (graph net) u x d (ahead r1) (back r1) (ahead (sentAlong r1 j d)) (back (sentAlong r1 j d))
-    one = rw (← w .starts, ← w .leads) (along-pushed f (a .balanced) j d (w .here) dl)
+    one = rw (← w .starts, ← w .leads) (along-pushed send-along)
 
     pub send-way : Sends net t on u limit d r (sentAlong r1 j d)
     send-way =
         record {
           within = omega (arith, a .within, e, lesser-le room limit);
-          balanced = along-balanced f (a .balanced) j d (w .here) dl;
+          balanced = along-balanced send-along;
           pushed = λ X. omega (arith, a .pushed X, one X);
           kept = λ i h.
               omega (
                 arith,
                 a .kept i (rw q (added-keeps on x (tip (graph net) i) h)),
-                along-other f (a .balanced) j d (w .here) dl i (apart i h),
+                along-other send-along i (apart i h),
               );
         }
 
 -- what a call from s adds to a flow
-pub send-flow : {net : Network} {s t on v limit d : ℕ} {r r' : List (List ℕ)} → Flowing net s t v r → Sends net t on s limit d r r' → Flowing net s t (v + d) r'
+pub send-flow : {net : Network} {s t on v limit d : ℕ} {r r' : List (List ℕ)} → Flowing net s t v r
+    → Sends net t on s limit d r r' → Flowing net s t (v + d) r'
 send-flow {net} {s} {t} {on} {v} {limit} {d} {r} {r'} f a =
-    record { balanced = a .balanced; flow = more (graph net) s t v d (ahead r) (back r) (ahead r') (back r') (f .flow) (a .pushed) }
+    record {
+      balanced =
+          a .balanced;
+      flow = more (graph net) s t v d (ahead r) (back r) (ahead r') (back r') (f .flow) (a .pushed);
+    }
 
 pub flow-none : {net : Network} {s t v : ℕ} {r : List (List ℕ)} → Flowing net s t v r → Flowing net s t (v + 0) r
 flow-none {net} {s} {t} {v} f = let q : v + 0 ≡ v = omega arith in rw q f
 
-pub flow-more : {net : Network} {s t on limit d : ℕ} {r r' : List (List ℕ)} (v sent : ℕ) → Flowing net s t (v + sent) r → Sends net t on s limit d r r'
+pub flow-more : {net : Network} {s t on limit d : ℕ} {r r' : List (List ℕ)} (v sent : ℕ) → Flowing net s t (v + sent) r
+    → Sends net t on s limit d r r'
     → Flowing net s t (v + (sent + d)) r'
-flow-more {net} {s} {t} {on} {limit} {d} v sent f a = let q : v + (sent + d) ≡ v + sent + d = omega arith in rw q (send-flow f a)
+flow-more {net} {s} {t} {on} {limit} {d} v sent f a =
+    let q : v + (sent + d) ≡ v + sent + d = omega arith in
+    rw q (send-flow f a)
 
-pub carried-flow : {net : Network} {to : List ℕ} {s t v : ℕ} {r r' : List (List ℕ)} → Carried net to r → Flowing net s t v r' → Carried net to r'
-carried-flow a f = record { fits = a .fits; leads = a .leads; balanced = f .balanced }
+pub consistent-flow : {net : Network} {to : List ℕ} {s t v : ℕ} {r r' : List (List ℕ)} → Consistent net to r
+    → Flowing net s t v r' → Consistent net to r'
+consistent-flow a f = record { fits = a .fits; leads = a .leads; balanced = f .balanced }
 
-pub ready-carried : {net : Network} {first next to : List ℕ} {s t v : ℕ} {r : List (List ℕ)} → Ready net first next to s t → Flowing net s t v r → Carried net to r
-ready-carried a f = record { fits = a .ends .fits; leads = a .chains .leads; balanced = f .balanced }
+pub ready-consistent : {net : Network} {first next to : List ℕ} {s t v : ℕ} {r : List (List ℕ)}
+    → Ready net first next to s t → Flowing net s t v r → Consistent net to r
+ready-consistent a f = record { fits = a .ends .fits; leads = a .chains .leads; balanced = f .balanced }

@@ -1,15 +1,16 @@
-// Flow sent in phases: along arcs that the hints name, from ring to ring around t. Each arc is tested, so that what is sent is a flow whatever the hints say.
-use crate::hints::HINTS;
-use crate::hints::TABLE;
-use crate::hints::arc_by;
-use crate::hints::leads;
-use crate::hints::left_of;
-use crate::hints::note_sent;
-use crate::hints::note_short;
-use crate::hints::note_shut;
-use crate::hints::sweep;
+// Flow sent in phases: along arcs that the hints name, from ring to ring around t. Each arc is tested before it is
+// used, so that what is sent is a flow whatever the hints say.
+use crate::residual::UNLIMITED;
 use crate::residual::along;
-use crate::search::lesser;
+use crate::residual::lesser;
+use flow_hints::HINTS;
+use flow_hints::TABLE;
+use flow_hints::arc_by;
+use flow_hints::leads;
+use flow_hints::note_sent;
+use flow_hints::note_short;
+use flow_hints::note_shut;
+use flow_hints::sweep;
 use network::MAX_ARCS;
 use network::MAX_LINKS;
 use network::MAX_NODES;
@@ -19,14 +20,11 @@ use node_set::lowest;
 use node_set::single;
 ghost use mathlib.Core.Path.{_≡_};
 ghost use Prim.Native.Nat.{ℕ, _+_, _<_};
-ghost use Rattle.max_flow.specs.Augment.{Flowing};
+ghost use Rattle.max_flow.specs.Residuals.{Flowing};
 ghost use Rattle.max_flow.specs.LeastCut.{Endpoints};
-ghost use Rattle.max_flow.specs.Send.{otherWay, Carried, Way, Sends};
+ghost use Rattle.max_flow.specs.Send.{otherWay, Consistent, Way, Sends};
 ghost use Rattle.network.specs.declared.Network.{Network};
 ghost use Rattle.network.specs.Limits.{maxArcs, maxNodes};
-
-// no limit to what is sent
-const UNLIMITED: u32 = 4_294_967_295;
 
 // the arc back
 fn other_way(j: usize) -> usize
@@ -52,7 +50,10 @@ fn allowed(
     j: usize,
 ) -> u32
     requires { ⌜ (x < maxNodes) × (j < maxArcs) ⌝ }
-    ensures { λ r. ⌜ ((net : Network) → Carried net (now (to .entry)) (now (residual .entry)) → 0 < r → Way net (now (residual .entry)) on u x j r) ⌝ }
+    ensures { λ r. ⌜ ((net : Network)
+        → Consistent net (now (to .entry)) (now (residual .entry))
+        → 0 < r
+        → Way net (now (residual .entry)) on u x j r) ⌝ }
 {
     let tip = wide(to[j]);
     if tip != x {
@@ -69,7 +70,8 @@ fn allowed(
     residual[j / 2][j % 2]
 }
 
-// Sends at most `limit` from u to t by x, of ring l; how much that is. `on` are the nodes on the way to u, and u: arcs that lead to those keep their room.
+// Sends at most `limit` from u to t by x, of ring l; how much that is. `on` are the nodes on the way to u, and u: arcs
+// that lead to those keep their room.
 fn send_by(
     to: &[u8; MAX_ARCS],
     table: &[u16; TABLE],
@@ -83,8 +85,10 @@ fn send_by(
     limit: u32,
 ) -> u32
     requires { ⌜ (t < maxNodes) × (u < maxNodes) × (x < maxNodes) × (l < maxNodes) ⌝ }
-    requires { ⌜ ((net : Network) × Carried net (now to) (now residual)) ⌝ }
-    ensures { λ r. ⌜ ((net : Network) → Carried net (now (to .entry)) (now (residual .entry)) → Sends net t on u limit r (now (residual .entry)) (now (residual .exit))) ⌝ }
+    requires { ⌜ ((net : Network) × Consistent net (now to) (now residual)) ⌝ }
+    ensures { λ r. ⌜ ((net : Network)
+        → Consistent net (now (to .entry)) (now (residual .entry))
+        → Sends net t on u limit r (now (residual .entry)) (now (residual .exit))) ⌝ }
 {
     let j = arc_by(table, &*residual, u, x);
     let room = allowed(to, &*residual, on, u, x, j);
@@ -113,8 +117,10 @@ fn send_from(
     limit: u32,
 ) -> u32
     requires { ⌜ (t < maxNodes) × (x < maxNodes) × (l < maxNodes) ⌝ }
-    requires { ⌜ ((net : Network) × Carried net (now to) (now residual)) ⌝ }
-    ensures { λ r. ⌜ ((net : Network) → Carried net (now (to .entry)) (now (residual .entry)) → Sends net t on x limit r (now (residual .entry)) (now (residual .exit))) ⌝ }
+    requires { ⌜ ((net : Network) × Consistent net (now to) (now residual)) ⌝ }
+    ensures { λ r. ⌜ ((net : Network)
+        → Consistent net (now (to .entry)) (now (residual .entry))
+        → Sends net t on x limit r (now (residual .entry)) (now (residual .exit))) ⌝ }
 {
     if x == t {
         return limit;
@@ -123,6 +129,17 @@ fn send_from(
         return 0;
     }
     send(to, table, hints, residual, t, x, l - 1, on, limit)
+}
+
+// the nodes of `rest` still to be tried: without the lowest, and none once all is sent
+fn left_of(rest: u64, sent: u32, limit: u32) -> u64
+    requires { ⌜ 0 < rest ⌝ }
+    ensures { λ r. ⌜ r < rest ⌝ }
+{
+    if sent == limit {
+        return 0;
+    }
+    rest & (rest - 1)
 }
 
 // The same from u, along every arc that the hints name to ring l.
@@ -138,20 +155,23 @@ fn send(
     limit: u32,
 ) -> u32
     requires { ⌜ (t < maxNodes) × (u < maxNodes) × (l < maxNodes) ⌝ }
-    requires { ⌜ ((net : Network) × Carried net (now to) (now residual)) ⌝ }
-    ensures { λ r. ⌜ ((net : Network) → Carried net (now (to .entry)) (now (residual .entry)) → Sends net t on u limit r (now (residual .entry)) (now (residual .exit))) ⌝ }
+    requires { ⌜ ((net : Network) × Consistent net (now to) (now residual)) ⌝ }
+    ensures { λ r. ⌜ ((net : Network)
+        → Consistent net (now (to .entry)) (now (residual .entry))
+        → Sends net t on u limit r (now (residual .entry)) (now (residual .exit))) ⌝ }
 {
     let mut sent: u32 = 0;
     let mut rest = leads(&*hints, u, l);
     while rest > 0 {
         let x = lowest(rest);
-        sent = sent + send_by(to, table, hints, residual, t, u, x, l, on, limit - sent);
+        let d = send_by(to, table, hints, residual, t, u, x, l, on, limit - sent);
+        sent = sent + d;
         rest = left_of(rest, sent, limit);
     }
     sent
 }
 
-// Flow is sent from s to t in phases, as long as the hints find a way; how much that is. A hint: `goal` is what may be all.
+// Flow is sent from s to t in phases, as long as the hints find a way; how much that is.
 pub fn send_all(
     to: &[u8; MAX_ARCS],
     table: &[u16; TABLE],
@@ -159,32 +179,26 @@ pub fn send_all(
     residual: &mut [[u32; 2]; MAX_LINKS],
     s: usize,
     t: usize,
-    goal: u32,
 ) -> u32
-    requires { ⌜ ((net : Network) × (v : ℕ) × Endpoints net s t × Carried net (now to) (now residual) × Flowing net s t v (now residual)) ⌝ }
-    ensures { λ r. ⌜ ((net : Network) (v : ℕ) → Carried net (now (to .entry)) (now (residual .entry)) → Flowing net s t v (now (residual .entry)) → Flowing net s t (v + r) (now (residual .exit))) ⌝ }
+    requires { ⌜ ((net : Network)
+        × (v : ℕ)
+        × Endpoints net s t
+        × Consistent net (now to) (now residual)
+        × Flowing net s t v (now residual)) ⌝ }
+    ensures { λ r. ⌜ ((net : Network) (v : ℕ)
+        → Consistent net (now (to .entry)) (now (residual .entry))
+        → Flowing net s t v (now (residual .entry))
+        → Flowing net s t (v + r) (now (residual .exit))) ⌝ }
 {
-    let mut sent: u32 = 0;
+    let mut total: u32 = 0;
     for k in 0..MAX_NODES {
         let level = sweep(hints, s, t);
         if level == 0 {
-            return sent;
+            return total;
         }
-        sent = sent
-            + send(
-                to,
-                table,
-                hints,
-                residual,
-                t,
-                s,
-                level - 1,
-                single(s),
-                UNLIMITED,
-            );
-        if sent == goal {
-            return sent;
-        }
+        let on = single(s);
+        let d = send(to, table, hints, residual, t, s, level - 1, on, UNLIMITED);
+        total = total + d;
     }
-    sent
+    total
 }

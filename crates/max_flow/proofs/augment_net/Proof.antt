@@ -12,13 +12,25 @@ start-hints-requires c κs = search needs
 fill-table-requires : tie.Need-fill-table-requires
 fill-table-requires c κs = search needs
 
+full-residual-requires : tie.Need-full-residual-requires
+full-residual-requires c κs = search needs
+
 augment-requires : tie.Need-augment-requires
 augment-requires c κs = search needs
 
+same-length : tie.Need-same-length
+same-length c = search needs
+
 returns : tie.Need-returns
 returns c =
-    let st = c .before .before .before .before .before .before .before .before .before .before .before .before .before .before in
-    c .augment .ensures (st .args .net) (record { ends = st .pre .0; chains = c .before .before .before .before .before .before .before .before .before .before .before .before .before .incidence-of .ensures }) (st .pre .1)
+    let full = c .before .before .before .before .before .before .before .before .before in
+    let arcs = full .before .before .before .before .before .before .before in
+    let st = arcs .before in
+    c .before .augment .ensures (st .args .net) (record {
+      ends =
+          st .pre .0;
+      chains = arcs .incidence-of .ensures;
+    }) (full .full-residual .ensures)
 
 pub augment-net-spec : {M : Type 1} → statement M
 augment-net-spec =
@@ -27,5 +39,7 @@ augment-net-spec =
     incidence-of-requires
     start-hints-requires
     fill-table-requires
+    full-residual-requires
     augment-requires
+    same-length
     returns)

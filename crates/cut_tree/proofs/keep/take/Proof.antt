@@ -14,14 +14,12 @@ kept-cut-requires c κs = let k = c .before in kept-room _ _ _ (sym (k .keeps .e
 returns : tie.Need-returns
 returns c = λ net a q. took-kept _ _ _ _ _ _ (c .before .before .keeps .ensures) (c .before .if1 .taken) _ (c .kept-cut .ensures)
 
-expected-requires : tie.Need-expected-requires
-expected-requires c κs = search needs
-
 least-cut-by-requires : tie.Need-least-cut-by-requires
 least-cut-by-requires c κs = search needs
 
 returns-2 : tie.Need-returns-2
-returns-2 c = λ net a q. took-anew _ _ _ _ _ _ (c .before .before .before .keeps .ensures) (c .before .before .if1 .left) _ (c .least-cut-by .ensures net a q)
+returns-2 c =
+    λ net a q. took-anew _ _ _ _ _ _ (c .before .before .keeps .ensures) (c .before .if1 .left) _ (c .least-cut-by .ensures net a q)
 
 pub take-spec : {M : Type 1} → statement M
 take-spec =
@@ -30,6 +28,5 @@ take-spec =
     keeps-requires
     kept-cut-requires
     returns
-    expected-requires
     least-cut-by-requires
     returns-2)

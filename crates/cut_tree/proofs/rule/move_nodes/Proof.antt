@@ -40,7 +40,8 @@ loop-less c =
 loop-again : tie.Need-loop-again Inv-loop μ-loop
 loop-again c =
     let l = c .before .before .before in
-    moving-next (l .before .before .loop .parent) _ _ _ _ _ _ _ (l .lowest .ensures .here) (c .before .moved-one .ensures) (c .remove .ensures) (l .before .before .loop .inv)
+    moving-next (l .before .before .loop .parent) _ _ _ _ _ _ _ (l .lowest .ensures .here) (c .before .moved-one .ensures)
+    (c .remove .ensures) (l .before .before .loop .inv)
 
 returns : tie.Need-returns Inv-loop μ-loop
 returns c = moving-end _ _ _ _ _ (c .loop-test .left) (c .before .loop .inv)

@@ -52,8 +52,10 @@ element-write-weight-2 c = search needs
 returns : tie.Need-returns
 returns c =
     let o = c .before .before in
-    let m = o .before in
-    (parents-between _ _ _ _ _ _ (m .move-nodes .ensures) (o .contains .ensures) (c .before .if1 .taken), weights-between _ _ _ _ _ _ (o .contains .ensures) (c .before .if1 .taken))
+    let m = o .before in (
+      parents-between _ _ _ _ _ _ (m .move-nodes .ensures) (o .contains .ensures) (c .before .if1 .taken),
+      weights-between _ _ _ _ _ _ (o .contains .ensures) (c .before .if1 .taken),
+    )
 
 cast-parent-2 : tie.Need-cast-parent-2
 cast-parent-2 c = search needs
@@ -70,8 +72,10 @@ element-write-weight-3 c = search needs
 returns-2 : tie.Need-returns-2
 returns-2 c =
     let o = c .before in
-    let m = o .before in
-    (parents-beside _ _ _ _ _ _ (m .move-nodes .ensures) (o .contains .ensures) (c .if1 .left), weights-beside _ _ _ _ _ _ (o .contains .ensures) (c .if1 .left))
+    let m = o .before in (
+      parents-beside _ _ _ _ _ _ (m .move-nodes .ensures) (o .contains .ensures) (c .if1 .left),
+      weights-beside _ _ _ _ _ _ (o .contains .ensures) (c .if1 .left),
+    )
 
 pub place-spec : {M : Type 1} → statement M
 place-spec =

@@ -1,6 +1,6 @@
 -- `along` changes one row.
 use native.Mathlib.Omega.{arith}
-use Rattle.max_flow.specs.Send.{arc-lt, along-row}
+use Rattle.max_flow.specs.ResidualLaws.{arc-lt, along-fits}
 use borrow.Author.Needs.{needs}
 use Rattle.max_flow.proofs.residual.along.Statement.{statement}
 use Rattle.max_flow.proofs.residual.along.Tie as tie
@@ -24,7 +24,7 @@ index-2-y : tie.Need-index-2-y
 index-2-y c = search needs
 
 row-after-requires : tie.Need-row-after-requires
-row-after-requires c κs = along-row (c .before .before .pre .1)
+row-after-requires c κs = along-fits (c .before .before .pre .1)
 
 mul-row : tie.Need-mul-row
 mul-row c = omega (arith, arc-lt (c .before .before .before .pre .1))

@@ -4,7 +4,7 @@ use Prim.Native.Nat.{ℕ, _+_, _*_, _<_}
 use native.Mathlib.Omega.{arith}
 use borrow.Author.Needs.{needs}
 use Rattle.network.specs.declared.Network.{Network}
-use Rattle.max_flow.specs.Send.{Carried, Sends, carried-next, send-there, send-none, send-more, send-along, send-way}
+use Rattle.max_flow.specs.Send.{Consistent, Sends, consistent-next, send-there, send-none, send-more, send-along, send-way}
 use borrow.Fn.Kinds.{In}
 use borrow.Fn.PlainCycle.{Measures, is, falls, and}
 use Rattle.max_flow.proofs.send.send.Reads as send
@@ -16,14 +16,14 @@ use Rattle.max_flow.proofs.send.+send+send_by+send_from.Lts-send_by as 
 use Rattle.max_flow.proofs.send.send_from.Reads as send-from
 use Rattle.max_flow.proofs.send.send_from.Kinds as send-from-kinds
 use Rattle.max_flow.proofs.send.+send+send_by+send_from.Lts-send_from as send-from-lts
-use Rattle.max_flow.proofs.hints.arc_by.Reads as arc-by-reads
-use Rattle.max_flow.proofs.hints.leads.Reads as leads-reads
-use Rattle.max_flow.proofs.hints.left_of.Reads as left-of-reads
-use Rattle.max_flow.proofs.hints.note_sent.Reads as note-sent-reads
-use Rattle.max_flow.proofs.hints.note_short.Reads as note-short-reads
-use Rattle.max_flow.proofs.hints.note_shut.Reads as note-shut-reads
+use Rattle.flow_hints.proofs.arc_by.Reads as arc-by-reads
+use Rattle.flow_hints.proofs.leads.Reads as leads-reads
+use Rattle.max_flow.proofs.send.left_of.Reads as left-of-reads
+use Rattle.flow_hints.proofs.note_sent.Reads as note-sent-reads
+use Rattle.flow_hints.proofs.note_short.Reads as note-short-reads
+use Rattle.flow_hints.proofs.note_shut.Reads as note-shut-reads
 use Rattle.max_flow.proofs.residual.along.Reads as along-reads
-use Rattle.max_flow.proofs.search.lesser.Reads as lesser-reads
+use Rattle.max_flow.proofs.residual.lesser.Reads as lesser-reads
 use Rattle.max_flow.proofs.send.allowed.Reads as allowed-reads
 use Rattle.node_set.proofs.add.Reads as add-reads
 use Rattle.node_set.proofs.lowest.Reads as lowest-reads
@@ -58,16 +58,45 @@ abbrev send-from-below : ℕ → In 4 send-from-kinds.ps
 send-from-below t = and 4 send-from-kinds.ps (falls 4 send-from-kinds.ps _<_ μ-send-from t) send-from.Pre
 
 abbrev send-claims : ℕ → send-lts.Claims
-send-claims t = (leads-reads.Asked, leads-reads.Learnt, lowest-reads.Asked, lowest-reads.Learnt, send-by-below t, send-by.Post, left-of-reads.Asked, left-of-reads.Learnt)
+send-claims t = (
+  leads-reads.Asked,
+  leads-reads.Learnt,
+  lowest-reads.Asked,
+  lowest-reads.Learnt,
+  send-by-below t,
+  send-by.Post,
+  left-of-reads.Asked,
+  left-of-reads.Learnt,
+)
 
 abbrev send-by-claims : ℕ → send-by-lts.Claims
-send-by-claims t = (arc-by-reads.Asked, arc-by-reads.Learnt, allowed-reads.Asked, allowed-reads.Learnt, lesser-reads.Asked, lesser-reads.Learnt, note-shut-reads.Asked, note-shut-reads.Learnt, add-reads.Asked, add-reads.Learnt, send-from-below t, send-from.Post, along-reads.Asked, along-reads.Learnt, note-sent-reads.Asked, note-sent-reads.Learnt, note-short-reads.Asked, note-short-reads.Learnt)
+send-by-claims t = (
+  arc-by-reads.Asked,
+  arc-by-reads.Learnt,
+  allowed-reads.Asked,
+  allowed-reads.Learnt,
+  lesser-reads.Asked,
+  lesser-reads.Learnt,
+  note-shut-reads.Asked,
+  note-shut-reads.Learnt,
+  add-reads.Asked,
+  add-reads.Learnt,
+  send-from-below t,
+  send-from.Post,
+  along-reads.Asked,
+  along-reads.Learnt,
+  note-sent-reads.Asked,
+  note-sent-reads.Learnt,
+  note-short-reads.Asked,
+  note-short-reads.Learnt,
+)
 
 abbrev send-from-claims : ℕ → send-from-lts.Claims
 send-from-claims t = (send-below t, send.Post)
 
 abbrev send-Inv-loop : send-lts.InvT-loop
-send-Inv-loop to table hints₀ residual₀ t u l on limit sent₀ rest₀ hints residual sent rest = (net : Network) → Carried net to residual₀ → Sends net t on u limit sent residual₀ residual
+send-Inv-loop to table hints₀ residual₀ t u l on limit sent₀ rest₀ hints residual sent rest =
+    (net : Network) → Consistent net to residual₀ → Sends net t on u limit sent residual₀ residual
 
 abbrev send-μ-loop : send-lts.MeasureT-loop
 send-μ-loop to table hints₀ residual₀ t u l on limit sent₀ rest₀ hints residual sent rest = rest
@@ -82,13 +111,26 @@ send-lowest-requires : (t : ℕ) → send-lts.Need-lowest-requires (send-claims 
 send-lowest-requires t c κs = omega arith
 
 send-sub-send-by : (t : ℕ) → send-lts.Need-sub-send-by (send-claims t) (send-at t) send.Post send-Inv-loop send-μ-loop
-send-sub-send-by t c = let st = c .before .before .before .before .before .before .before in let l = c .before .before .before .before .loop in omega (arith, l .inv (st .pre .1 .1 .0) (st .pre .1 .1 .1) .within)
+send-sub-send-by t c =
+    let st = c .before .before .before .before .before .before .before in
+    let l = c .before .before .before .before .loop in
+    omega (arith, l .inv (st .pre .1 .1 .0) (st .pre .1 .1 .1) .within)
 
 send-send-by-requires : (t : ℕ) → send-lts.Need-send-by-requires (send-claims t) (send-at t) send.Post send-Inv-loop send-μ-loop
-send-send-by-requires t c κs = let st = c .before .before .before .before .before .before .before in let l = c .before .before .before .before .loop in let net = st .pre .1 .1 .0 in let a = st .pre .1 .1 .1 in (omega arith, (search needs, (net, carried-next a (l .inv net a))))
+send-send-by-requires t c κs =
+    let st = c .before .before .before .before .before .before .before in
+    let l = c .before .before .before .before .loop in
+    let net = st .pre .1 .1 .0 in
+    let a = st .pre .1 .1 .1 in
+    (omega arith, (search needs, (net, consistent-next a (l .inv net a))))
 
 send-add-sent : (t : ℕ) → send-lts.Need-add-sent (send-claims t) (send-at t) send.Post send-Inv-loop send-μ-loop
-send-add-sent t c = let st = c .before .before .before .before .before .before .before .before in let l = c .before .before .before .before .before .loop in let net = st .pre .1 .1 .0 in let a = st .pre .1 .1 .1 in omega (arith, l .inv net a .within, c .send-by .ensures net (carried-next a (l .inv net a)) .within, st .fits .limit)
+send-add-sent t c =
+    let st = c .before .before .before .before .before .before .before .before in
+    let l = c .before .before .before .before .before .loop in
+    let net = st .pre .1 .1 .0 in
+    let a = st .pre .1 .1 .1 in
+    omega (arith, l .inv net a .within, c .send-by .ensures net (consistent-next a (l .inv net a)) .within, st .fits .limit)
 
 send-left-of-requires : (t : ℕ) → send-lts.Need-left-of-requires (send-claims t) (send-at t) send.Post send-Inv-loop send-μ-loop
 send-left-of-requires t c κs = omega arith
@@ -97,7 +139,9 @@ send-loop-less : (t : ℕ) → send-lts.Need-loop-less (send-claims t) (send-at 
 send-loop-less t c = omega arith
 
 send-loop-again : (t : ℕ) → send-lts.Need-loop-again (send-claims t) (send-at t) send.Post send-Inv-loop send-μ-loop
-send-loop-again t c = let l = c .before .before .before .before .before .before .loop in λ net a. send-more (l .inv net a) (c .before .send-by .ensures net (carried-next a (l .inv net a))) refl
+send-loop-again t c =
+    let l = c .before .before .before .before .before .before .loop in
+    λ net a. send-more (l .inv net a) (c .before .send-by .ensures net (consistent-next a (l .inv net a))) refl
 
 send-returns : (t : ℕ) → send-lts.Need-returns (send-claims t) (send-at t) send.Post send-Inv-loop send-μ-loop
 send-returns t c = λ net a. c .before .loop .inv net a
@@ -121,19 +165,40 @@ send-by-add-requires : (t : ℕ) → send-by-lts.Need-add-requires (send-by-clai
 send-by-add-requires t c κs = search needs
 
 send-by-send-from-requires : (t : ℕ) → send-by-lts.Need-send-from-requires (send-by-claims t) (send-by-at t) send-by.Post
-send-by-send-from-requires t c κs = let st = c .before .before .before .before .before .before .before .before .before in (omega arith, (search needs, st .pre .1 .1))
+send-by-send-from-requires t c κs =
+    let st = c .before .before .before .before .before .before .before .before .before in
+    (omega arith, (search needs, st .pre .1 .1))
 
 send-by-along-requires : (t : ℕ) → send-by-lts.Need-along-requires (send-by-claims t) (send-by-at t) send-by.Post
-send-by-along-requires t c κs = let st = c .before .before .before .before .before .before .before .before .before .before .before in let net = st .pre .1 .1 .0 in let a = st .pre .1 .1 .1 in (net, send-along (st .args .limit) (a .fits) (c .before .before .before .before .before .before .before .allowed .ensures net a) (c .before .before .before .before .before .before .lesser .ensures) (c .before .before .before .before .before .if1 .left) (c .before .before .add .ensures) (c .before .send-from .ensures net a))
+send-by-along-requires t c κs =
+    let want = c .before .before .before .before .before in
+    let tested = want .before .before in
+    let st = tested .before .before .before .before in
+    let net = st .pre .1 .1 .0 in
+    let a = st .pre .1 .1 .1 in (
+      net,
+      send-along (st .args .limit) (a .fits) (tested .allowed .ensures net a) (want .before .lesser .ensures) (want .if1 .left)
+          (c .before .before .add .ensures) (c .before .send-from .ensures net a),
+    )
 
 send-by-note-sent-requires : (t : ℕ) → send-by-lts.Need-note-sent-requires (send-by-claims t) (send-by-at t) send-by.Post
 send-by-note-sent-requires t c κs = search needs
 
 send-by-note-short-requires : (t : ℕ) → send-by-lts.Need-note-short-requires (send-by-claims t) (send-by-at t) send-by.Post
-send-by-note-short-requires t c κs = let st = c .before .before .before .before .before .before .before .before .before .before .before .before .before .before .before in (st .pre .1 .0 .2, st .pre .1 .0 .3)
+send-by-note-short-requires t c κs =
+    let st = c .before .before .before .before .before .before .before .before .before .before .before .before .before .before .before in
+    (st .pre .1 .0 .2, st .pre .1 .0 .3)
 
 send-by-returns-2 : (t : ℕ) → send-by-lts.Need-returns-2 (send-by-claims t) (send-by-at t) send-by.Post
-send-by-returns-2 t c = let st = c .before .before .before .before .before .before .before .before .before .before .before .before .before .before .before .before in λ net a. rw (c .before .before .before .before .along .ensures) (send-way (st .args .limit) (a .fits) (c .before .before .before .before .before .before .before .before .before .before .before .before .allowed .ensures net a) (c .before .before .before .before .before .before .before .before .before .before .before .lesser .ensures) (c .before .before .before .before .before .before .before .before .before .before .if1 .left) (c .before .before .before .before .before .before .before .add .ensures) (c .before .before .before .before .before .before .send-from .ensures net a))
+send-by-returns-2 t c =
+    let sent = c .before .before .before .before .before .before in
+    let want = sent .before .before .before .before in
+    let tested = want .before .before in
+    let st = tested .before .before .before .before in
+    λ net a.
+    rw (c .before .before .before .before .along .ensures)
+    (send-way (st .args .limit) (a .fits) (tested .allowed .ensures net a) (want .before .lesser .ensures) (want .if1 .left)
+    (sent .before .add .ensures) (sent .send-from .ensures net a))
 
 send-from-returns : (t : ℕ) → send-from-lts.Need-returns (send-from-claims t) (send-from-at t) send-from.Post
 send-from-returns t c = λ net a. rw (c .if1 .taken) (send-there (a .balanced))

@@ -54,11 +54,15 @@ index-2-result c = search needs
 
 returns-4 : tie.Need-returns-4
 returns-4 c =
-    let st = c .before .before .before .before .before .before .before .before .before .before in
+    let tail = c .before .before .before in
+    let tip = tail .before .before .before .before in
+    let st = tip .before .before .before in
     λ net a p.
-    way a (st .args .on) (st .args .u) (st .args .x) (st .args .j) _ (st .pre .1)
-    (sym (c .before .before .before .before .before .before .before .before .wide .ensures) ∙ c .before .before .before .before .before .before .before .if1 .left)
-    (ap (at (st .args .to .now)) (sym (c .before .before .before .before .before .before .other-way .ensures)) ∙ sym (c .before .before .before .before .wide2 .ensures) ∙ c .before .before .before .if2 .left)
+    way a (st .args .on) (st .args .u) (st .args .x) (st .args .j) _ (st .pre .1) (sym (tip .before .wide .ensures) ∙ tip .if1 .left)
+    (
+    ap (at (st .args .to .now)) (sym (tail .before .before .before .other-way .ensures)) ∙ sym (tail .before .wide2 .ensures)
+    ∙ tail .if2 .left
+    )
     (sym (c .before .before .contains .ensures) ∙ c .before .if3 .left)
     (room-read (st .args .residual .now) (st .args .j)) p
 

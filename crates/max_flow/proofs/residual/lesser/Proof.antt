@@ -1,7 +1,7 @@
 -- `lesser` gives the lesser of two numbers.
 use borrow.Author.Tests.{le-leb, lt-leb}
-use Rattle.max_flow.proofs.search.lesser.Statement.{statement}
-use Rattle.max_flow.proofs.search.lesser.Tie as tie
+use Rattle.max_flow.proofs.residual.lesser.Statement.{statement}
+use Rattle.max_flow.proofs.residual.lesser.Tie as tie
 
 returns : tie.Need-returns
 returns c = simp (le-leb _ _ (c .if1 .taken))

@@ -1,4 +1,5 @@
-// Hints: where flow is to be sent first. A wrong one costs time and nothing else, so nothing is promised of them but that they end.
+// Hints for the flow core: where flow is to be sent first. A wrong one costs time and nothing else, so nothing is
+// promised of them but that they end and stay in bounds: whoever follows a hint tests it.
 use network::MAX_ARCS;
 use network::MAX_LINKS;
 use network::MAX_NODES;
@@ -16,18 +17,19 @@ ghost use Prim.Native.Nat.{_<_, _≤_};
 ghost use Rattle.network.specs.Limits.{maxNodes, maxArcs};
 ghost use Rattle.network.specs.Network.{networkFits};
 
-// hints[u] are the nodes to which an arc with room leads from u, hints[INTO + v] those from which one leads to v, and hints[RING + l] those
-// from which l arcs lead to t
-pub const HINTS: usize = 192;
+// One array holds all sets of nodes, so that it is lent and copied as one: hints[u] are those to which an arc with room
+// leads from u, hints[INTO + v] those from which one leads to v, and hints[RING + l] those from which l arcs lead to t.
+pub const HINTS: usize = 3 * MAX_NODES;
 
-const INTO: usize = 64;
+const INTO: usize = MAX_NODES;
 
-const RING: usize = 128;
+const RING: usize = 2 * MAX_NODES;
 
-// table[64 u + x] is one more than an arc from u to x, and table[CHAIN + j] one more than another arc with the ends of arc j; 0 where there is none
-pub const TABLE: usize = 4608;
+// table[MAX_NODES u + x] is one more than an arc from u to x, and table[CHAIN + j] one more than another arc with the
+// ends of arc j; 0 where there is none.
+pub const TABLE: usize = MAX_NODES * MAX_NODES + MAX_ARCS;
 
-const CHAIN: usize = 4096;
+const CHAIN: usize = MAX_NODES * MAX_NODES;
 
 // The hints before anything is sent: every arc has room.
 pub fn start_hints(net: Network) -> [u64; HINTS]
@@ -48,7 +50,7 @@ pub fn start_hints(net: Network) -> [u64; HINTS]
 fn put_arc(table: &mut [u16; TABLE], u: usize, x: usize, j: usize)
     requires { ⌜ (u < maxNodes) × (x < maxNodes) × (j < maxArcs) ⌝ }
 {
-    let i = 64 * u + x;
+    let i = MAX_NODES * u + x;
     table[CHAIN + j] = table[i];
     table[i] = (j + 1) as u16;
 }
@@ -78,7 +80,8 @@ fn leading_to(hints: &[u64; HINTS], ring: u64) -> u64 {
     all
 }
 
-// The rings around t, outwards until an arc leads from s to one. How many arcs lead from s to t then, 0 where no way is found.
+// The rings around t, outwards until an arc leads from s to one. How many arcs lead from s to t then, 0 where no way is
+// found.
 pub fn sweep(hints: &mut [u64; HINTS], s: usize, t: usize) -> usize
     requires { ⌜ (s < maxNodes) × (t < maxNodes) ⌝ }
     ensures { λ r. ⌜ r ≤ maxNodes ⌝ }
@@ -110,17 +113,6 @@ pub fn leads(hints: &[u64; HINTS], u: usize, l: usize) -> u64
     hints[u] & hints[RING + l]
 }
 
-// what is left of `rest` without its lowest; nothing once all is sent
-pub fn left_of(rest: u64, sent: u32, limit: u32) -> u64
-    requires { ⌜ 0 < rest ⌝ }
-    ensures { λ r. ⌜ r < rest ⌝ }
-{
-    if sent == limit {
-        return 0;
-    }
-    rest & (rest - 1)
-}
-
 // whether arc j has room
 fn has_room(residual: &[[u32; 2]; MAX_LINKS], j: usize) -> bool
     requires { ⌜ j < maxArcs ⌝ }
@@ -140,7 +132,7 @@ pub fn arc_by(table: &[u16; TABLE], residual: &[[u32; 2]; MAX_LINKS], u: usize, 
     requires { ⌜ (u < maxNodes) × (x < maxNodes) ⌝ }
     ensures { λ r. ⌜ r < maxArcs ⌝ }
 {
-    let j = arc_of(table[64 * u + x]);
+    let j = arc_of(table[MAX_NODES * u + x]);
     if has_room(residual, j) {
         return j;
     }

@@ -3,8 +3,8 @@ use borrow.Author.Needs.{needs}
 use Prim.Native.Nat.{_-_, _≤_}
 use native.Mathlib.Omega.{arith}
 use Rattle.network.specs.Limits.{maxNodes}
-use Rattle.max_flow.proofs.hints.sweep.Statement.{statement}
-use Rattle.max_flow.proofs.hints.sweep.Tie as tie
+use Rattle.flow_hints.proofs.sweep.Statement.{statement}
+use Rattle.flow_hints.proofs.sweep.Tie as tie
 
 abbrev Inv-loop : tie.InvT-loop
 Inv-loop hints₀ s t near seen₀ ring₀ l₀ hints seen ring l = l ≤ maxNodes

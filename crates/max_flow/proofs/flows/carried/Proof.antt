@@ -1,8 +1,8 @@
 -- `carried` gives the difference of two numbers that fit 31 bits.
 use borrow.Author.Needs.{needs}
 use Rattle.max_flow.specs.Signed.{difference-fits, difference-is}
-use Rattle.max_flow.proofs.carried.Statement.{statement}
-use Rattle.max_flow.proofs.carried.Tie as tie
+use Rattle.max_flow.proofs.flows.carried.Statement.{statement}
+use Rattle.max_flow.proofs.flows.carried.Tie as tie
 
 cast-result : tie.Need-cast-result
 cast-result c = search needs

@@ -5,8 +5,8 @@ use native.Mathlib.Omega.{arith}
 use Rattle.network.specs.Basics.{at}
 use Rattle.network.specs.Limits.{maxNodes, maxLinks}
 use Rattle.network.specs.NetworkLaws.{link-places}
-use Rattle.max_flow.proofs.hints.fill_table.Statement.{statement}
-use Rattle.max_flow.proofs.hints.fill_table.Tie as tie
+use Rattle.flow_hints.proofs.fill_table.Statement.{statement}
+use Rattle.flow_hints.proofs.fill_table.Tie as tie
 
 abbrev Inv-loop : tie.InvT-loop
 Inv-loop table₀ net m k₀ table k = k ≤ m
@@ -14,7 +14,10 @@ Inv-loop table₀ net m k₀ table k = k ≤ m
 abbrev μ-loop : tie.MeasureT-loop
 μ-loop table₀ net m k₀ table k = m - k
 
-places : (c : tie.In-loop Inv-loop μ-loop) → (c .before .loop .k < maxLinks) × (at (c .before .before .args .t1 .a) (c .before .loop .k) < maxNodes) × (at (c .before .before .args .t1 .b) (c .before .loop .k) < maxNodes)
+places : (c : tie.In-loop Inv-loop μ-loop)
+    → (c .before .loop .k < maxLinks)
+    × (at (c .before .before .args .t1 .a) (c .before .loop .k) < maxNodes)
+    × (at (c .before .before .args .t1 .b) (c .before .loop .k) < maxNodes)
 places c = link-places (c .before .before .args .t1) (c .before .before .pre) (c .before .loop .k) (c .loop-test .taken)
 
 loop-holds : tie.Need-loop-holds Inv-loop μ-loop

@@ -3,8 +3,8 @@ use Prim.Native.Nat.{_-_, _≤_}
 use native.Mathlib.Omega.{arith}
 use borrow.Author.Needs.{needs}
 use lib.Bits.{and-le-r}
-use Rattle.max_flow.proofs.hints.leading_to.Statement.{statement}
-use Rattle.max_flow.proofs.hints.leading_to.Tie as tie
+use Rattle.flow_hints.proofs.leading_to.Statement.{statement}
+use Rattle.flow_hints.proofs.leading_to.Tie as tie
 
 abbrev Inv-loop : tie.InvT-loop
 Inv-loop hints ring all₀ rest₀ all rest = 0 ≤ rest

@@ -3,8 +3,8 @@ use borrow.Author.Needs.{needs}
 use Prim.Native.Nat.{_-_, _<_, _≤_}
 use native.Mathlib.Omega.{arith}
 use Rattle.network.specs.Limits.{maxArcs, maxLinks}
-use Rattle.max_flow.proofs.hints.spare.Statement.{statement}
-use Rattle.max_flow.proofs.hints.spare.Tie as tie
+use Rattle.flow_hints.proofs.spare.Statement.{statement}
+use Rattle.flow_hints.proofs.spare.Tie as tie
 
 abbrev Inv-loop : tie.InvT-loop
 Inv-loop table residual first j₀ k₀ j k = (j < maxArcs) × (k ≤ maxLinks)

@@ -5,8 +5,8 @@ use native.Mathlib.Omega.{arith}
 use Rattle.network.specs.Basics.{at}
 use Rattle.network.specs.Limits.{maxNodes, maxLinks}
 use Rattle.network.specs.NetworkLaws.{link-places}
-use Rattle.max_flow.proofs.hints.start_hints.Statement.{statement}
-use Rattle.max_flow.proofs.hints.start_hints.Tie as tie
+use Rattle.flow_hints.proofs.start_hints.Statement.{statement}
+use Rattle.flow_hints.proofs.start_hints.Tie as tie
 
 abbrev Inv-loop : tie.InvT-loop
 Inv-loop net m hints₀ k₀ hints k = k ≤ m
@@ -14,7 +14,10 @@ Inv-loop net m hints₀ k₀ hints k = k ≤ m
 abbrev μ-loop : tie.MeasureT-loop
 μ-loop net m hints₀ k₀ hints k = m - k
 
-places : (c : tie.In-loop Inv-loop μ-loop) → (c .before .loop .k < maxLinks) × (at (c .before .before .args .t1 .a) (c .before .loop .k) < maxNodes) × (at (c .before .before .args .t1 .b) (c .before .loop .k) < maxNodes)
+places : (c : tie.In-loop Inv-loop μ-loop)
+    → (c .before .loop .k < maxLinks)
+    × (at (c .before .before .args .t1 .a) (c .before .loop .k) < maxNodes)
+    × (at (c .before .before .args .t1 .b) (c .before .loop .k) < maxNodes)
 places c = link-places (c .before .before .args .t1) (c .before .before .pre) (c .before .loop .k) (c .loop-test .taken)
 
 loop-holds : tie.Need-loop-holds Inv-loop μ-loop

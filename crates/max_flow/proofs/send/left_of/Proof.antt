@@ -3,8 +3,8 @@ use Prim.Native.Nat.{_-_}
 use native.Mathlib.Omega.{arith}
 use lib.Bits.{and-le-r}
 use borrow.Author.Needs.{needs}
-use Rattle.max_flow.proofs.hints.left_of.Statement.{statement}
-use Rattle.max_flow.proofs.hints.left_of.Tie as tie
+use Rattle.max_flow.proofs.send.left_of.Statement.{statement}
+use Rattle.max_flow.proofs.send.left_of.Tie as tie
 
 returns : tie.Need-returns
 returns c = search needs
