@@ -127,11 +127,22 @@ fn arc_of(x: u16) -> usize
     (x as usize + (MAX_ARCS - 1)) % MAX_ARCS
 }
 
-// an arc that should lead from u to x, by the table: one with room, if there is one
-pub fn arc_by(table: &[u16; TABLE], residual: &[[u32; 2]; MAX_LINKS], u: usize, x: usize) -> usize
-    requires { ⌜ (u < maxNodes) × (x < maxNodes) ⌝ }
+// An arc that should lead from u to x, by the table: one with room, if there is one. Where the arc tried last led to x
+// too, only those behind it are left.
+pub fn arc_by(
+    table: &[u16; TABLE],
+    residual: &[[u32; 2]; MAX_LINKS],
+    u: usize,
+    x: usize,
+    last_node: usize,
+    last_arc: usize,
+) -> usize
+    requires { ⌜ (u < maxNodes) × (x < maxNodes) × («last_arc» < maxArcs) ⌝ }
     ensures { λ r. ⌜ r < maxArcs ⌝ }
 {
+    if x == last_node {
+        return spare(table, residual, last_arc);
+    }
     let j = arc_of(table[MAX_NODES * u + x]);
     if has_room(residual, j) {
         return j;

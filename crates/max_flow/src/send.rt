@@ -70,8 +70,8 @@ fn allowed(
     residual[j / 2][j % 2]
 }
 
-// Sends at most `limit` from u to t by x, of ring l; how much that is. `on` are the nodes on the way to u, and u: arcs
-// that lead to those keep their room.
+// Sends at most `limit` from u to t along arc j to x, of ring l, and on from there; how much that is. `on` are the nodes
+// on the way to u, and u: arcs that lead to those keep their room.
 fn send_by(
     to: &[u8; MAX_ARCS],
     table: &[u16; TABLE],
@@ -80,17 +80,17 @@ fn send_by(
     t: usize,
     u: usize,
     x: usize,
+    j: usize,
     l: usize,
     on: u64,
     limit: u32,
 ) -> u32
-    requires { ⌜ (t < maxNodes) × (u < maxNodes) × (x < maxNodes) × (l < maxNodes) ⌝ }
+    requires { ⌜ (t < maxNodes) × (u < maxNodes) × (x < maxNodes) × (j < maxArcs) × (l < maxNodes) ⌝ }
     requires { ⌜ ((net : Network) × Consistent net (now to) (now residual)) ⌝ }
     ensures { λ r. ⌜ ((net : Network)
         → Consistent net (now (to .entry)) (now (residual .entry))
         → Sends net t on u limit r (now (residual .entry)) (now (residual .exit))) ⌝ }
 {
-    let j = arc_by(table, &*residual, u, x);
     let room = allowed(to, &*residual, on, u, x, j);
     let want = lesser(room, limit);
     if want == 0 {
@@ -131,18 +131,7 @@ fn send_from(
     send(to, table, hints, residual, t, x, l - 1, on, limit)
 }
 
-// the nodes of `rest` still to be tried: without the lowest, and none once all is sent
-fn left_of(rest: u64, sent: u32, limit: u32) -> u64
-    requires { ⌜ 0 < rest ⌝ }
-    ensures { λ r. ⌜ r < rest ⌝ }
-{
-    if sent == limit {
-        return 0;
-    }
-    rest & (rest - 1)
-}
-
-// The same from u, along every arc that the hints name to ring l.
+// The same from u, along arcs that the hints name to ring l, as long as they name one. x and j are what was tried last.
 fn send(
     to: &[u8; MAX_ARCS],
     table: &[u16; TABLE],
@@ -161,12 +150,21 @@ fn send(
         → Sends net t on u limit r (now (residual .entry)) (now (residual .exit))) ⌝ }
 {
     let mut sent: u32 = 0;
-    let mut rest = leads(&*hints, u, l);
-    while rest > 0 {
-        let x = lowest(rest);
-        let d = send_by(to, table, hints, residual, t, u, x, l, on, limit - sent);
+    let mut x = u;
+    let mut j: usize = 0;
+    for k in 0..MAX_ARCS {
+        let rest = leads(&*hints, u, l);
+        if rest == 0 {
+            return sent;
+        }
+        let y = lowest(rest);
+        j = arc_by(table, &*residual, u, y, x, j);
+        x = y;
+        let d = send_by(to, table, hints, residual, t, u, x, j, l, on, limit - sent);
         sent = sent + d;
-        rest = left_of(rest, sent, limit);
+        if sent == limit {
+            return sent;
+        }
     }
     sent
 }
