@@ -40,4 +40,5 @@ module _ (file : List ℕ) {r : Reading} (e : r ≡ readFile file) where
     pub timed-accepted : (rounds : ℕ) {w : ℕ} → w ≡ weightAfter (r .network) rounds → w ≡ timedOf file rounds
     unfolding timedOf
     timed-accepted rounds g =
-        g ∙ sym (ap (λ (k : ℕ). accepted k (weightAfter (r .network) rounds) (λ e. 0)) z) ∙ ap (λ (r : Reading). timedIn r rounds) e
+        g ∙ sym (ap (λ (k : ℕ). accepted k (weightAfter (r .network) rounds) (λ e. 0)) z) ∙
+        ap (λ (r : Reading). timedIn r rounds) e

@@ -1,4 +1,4 @@
-// For measurements: the tree of a file worked out several times, so that its cuts can be timed apart from reading and from the plan.
+// The tree of a file worked out several times, so that its cuts can be timed apart from reading and from the plan.
 use network::Network;
 ghost use mathlib.Core.Bool.{true};
 ghost use mathlib.Core.Path.{_≡_};
