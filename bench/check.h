@@ -1,7 +1,6 @@
-// Whether the twin takes the library's way: equal trees, flows and steps kept; and beyond 64 nodes LEMON's limits.
+// Whether the twin takes the library's way: equal trees, flows link by link, and steps kept by changes.
 #pragma once
 #include "../include/pamzolit.h"
-#include "peers.h"
 #include "twin.h"
 #include <algorithm>
 #include <cstdio>
@@ -147,15 +146,3 @@ inline std::string check_twin(const std::vector<std::vector<Net>> &sets)
              checked.trees, checked.changes, checked.flows, checked.found);
     return text;
 }
-
-#ifdef HAVE_LEMON
-// A tree beyond 64 nodes: the limits of some pairs are LEMON's.
-template <class Node>
-void check_beyond(const Net &net, const LemonTree &peer, const Node *parent, const uint32_t *weight)
-{
-    for (int i = 0; i < 2000; i++) {
-        auto [s, t] = ends(net);
-        expect(path_weight(parent, weight, net.n, s, t) == peer.min_cut(s, t), "LEMON's limit of a pair", net);
-    }
-}
-#endif

@@ -2,6 +2,7 @@
 #pragma once
 #include "check.h"
 #include "meter.h"
+#include "peers.h"
 
 extern "C" uint32_t pamzolit_timing(const uint8_t *file, size_t file_length, uint32_t rounds);
 
