@@ -16,7 +16,7 @@ template <int W, bool Counting = false> struct Twin {
     static constexpr size_t MAX_NODES = 64 * W, MAX_LINKS = 256 * W, MAX_ARCS = 2 * MAX_LINKS;
     static constexpr size_t INTO = MAX_NODES, RING = 2 * MAX_NODES, HINTS = 3 * MAX_NODES;
     static constexpr size_t CHAIN = MAX_NODES * MAX_NODES, TABLE = CHAIN + MAX_ARCS;
-    static constexpr uint32_t UNLIMITED = 4294967295, NO_GOAL = 4294967295;
+    static constexpr uint32_t UNLIMITED = 4294967295;
     static constexpr uint16_t NO_NODE = 65535;
 
     using Set = NodeSet<W>;
@@ -78,7 +78,7 @@ template <int W, bool Counting = false> struct Twin {
         }
     }
 
-    // ---- crates/max_flow: hints
+    // ---- crates/flow_hints
     static void note_way(Hints &hints, size_t u, size_t x)
     {
         hints[x].add(u);
@@ -150,8 +150,10 @@ template <int W, bool Counting = false> struct Twin {
 
     static size_t arc_of(size_t x) { return (x + (MAX_ARCS - 1)) % MAX_ARCS; }
 
-    static size_t arc_by(const Table &table, const Residual &residual, size_t u, size_t x)
+    static size_t arc_by(const Table &table, const Residual &residual, size_t u, size_t x, size_t last_node,
+                         size_t last_arc)
     {
+        if (x == last_node) return spare(table, residual, last_arc);
         size_t j = arc_of(table[MAX_NODES * u + x]);
         if (has_room(residual, j)) return j;
         return spare(table, residual, j);
@@ -186,6 +188,8 @@ template <int W, bool Counting = false> struct Twin {
         for (size_t k = 0; k < net.links; k++) residual[k][0] = residual[k][1] = net.capacity[k];
     }
 
+    static uint32_t lesser(uint32_t a, uint32_t b) { return a <= b ? a : b; }
+
     static void along(Residual &residual, size_t j, uint32_t d)
     {
         residual[j / 2][j % 2] -= d;
@@ -193,8 +197,6 @@ template <int W, bool Counting = false> struct Twin {
     }
 
     // ---- crates/max_flow: search
-    static uint32_t lesser(uint32_t a, uint32_t b) { return a <= b ? a : b; }
-
     static void seed(SearchTree &tree, size_t s)
     {
         tree.count = 1;
@@ -236,9 +238,8 @@ template <int W, bool Counting = false> struct Twin {
     }
 
     static uint32_t send_by(const To &to, const Table &table, Hints &hints, Residual &residual, size_t t, size_t u,
-                            size_t x, size_t l, SetIn on, uint32_t limit)
+                            size_t x, size_t j, size_t l, SetIn on, uint32_t limit)
     {
-        size_t j = arc_by(table, residual, u, x);
         uint32_t room = allowed(to, residual, on, u, x, j);
         uint32_t want = lesser(room, limit);
         if (want == 0) {
@@ -265,59 +266,63 @@ template <int W, bool Counting = false> struct Twin {
                          size_t l, SetIn on, uint32_t limit)
     {
         uint32_t sent = 0;
-        for (Set rest = leads(hints, u, l); !rest.empty(); rest.drop_lowest()) {
-            sent += send_by(to, table, hints, residual, t, u, rest.lowest(), l, on, limit - sent);
-            if (sent == limit) break;
+        size_t x = u, j = 0;
+        for (size_t k = 0; k < MAX_ARCS; k++) {
+            Set rest = leads(hints, u, l);
+            if (rest.empty()) return sent;
+            size_t y = rest.lowest();
+            j = arc_by(table, residual, u, y, x, j);
+            x = y;
+            sent += send_by(to, table, hints, residual, t, u, x, j, l, on, limit - sent);
+            if (sent == limit) return sent;
         }
         return sent;
     }
 
-    static uint32_t send_all(const To &to, const Table &table, Hints &hints, Residual &residual, size_t s, size_t t,
-                             uint32_t goal)
+    static uint32_t send_all(const To &to, const Table &table, Hints &hints, Residual &residual, size_t s, size_t t)
     {
-        uint32_t sent = 0;
+        uint32_t total = 0;
         for (size_t k = 0; k < MAX_NODES; k++) {
             size_t level = sweep(hints, s, t);
-            if (level == 0) return sent;
-            sent += send(to, table, hints, residual, t, s, level - 1, single<W>(s), UNLIMITED);
-            if (sent == goal) return sent;
+            if (level == 0) return total;
+            total += send(to, table, hints, residual, t, s, level - 1, single<W>(s), UNLIMITED);
         }
-        return sent;
+        return total;
     }
 
     // ---- crates/max_flow: augment
-    static uint32_t push(const SearchTree &tree, Hints &hints, Residual &residual)
+    static void push(const SearchTree &tree, uint32_t d, Hints &hints, Residual &residual)
     {
         size_t i = tree.count - 1;
-        uint32_t d = tree.bottleneck[i];
         while (i > 0) {
             size_t f = tree.from[i];
             along(residual, tree.arc[i], d);
             note_way(hints, tree.node[f], tree.node[i]);
             i = f;
         }
-        return d;
     }
 
-    static Cut augment(const Shared &of, Scratch &on, size_t s, size_t t, uint32_t goal)
+    static Cut augment(const Shared &of, Scratch &on, size_t s, size_t t)
     {
         memcpy(on.hints, of.start, RING * sizeof(Set));
         uint32_t total = 0;
         for (;;) {
-            total += send_all(of.to, of.table, on.hints, on.residual, s, t, goal);
+            total += send_all(of.to, of.table, on.hints, on.residual, s, t);
             search(of.first, of.next, of.to, on.residual, s, t, on.tree);
             if (!on.tree.reached.contains(t)) return {on.tree.reached, total};
             if (Counting) counts.found++;
-            total += push(on.tree, on.hints, on.residual);
+            uint32_t d = on.tree.bottleneck[on.tree.count - 1];
+            push(on.tree, d, on.hints, on.residual);
+            total += d;
         }
     }
 
     // ---- crates/max_flow
-    static Cut least_cut_by(const Shared &of, Scratch &on, size_t links, size_t s, size_t t, uint32_t goal)
+    static Cut least_cut_by(const Shared &of, Scratch &on, size_t links, size_t s, size_t t)
     {
         if (Counting) counts.cuts++;
         memcpy(on.residual, of.full, links * sizeof *of.full);
-        return augment(of, on, s, t, goal);
+        return augment(of, on, s, t);
     }
 
     static std::unique_ptr<Shared> shared_by(const Network &net)
@@ -335,7 +340,7 @@ template <int W, bool Counting = false> struct Twin {
     {
         auto of = shared_by(net);
         auto on = std::make_unique<Scratch>();
-        Cut cut = least_cut_by(*of, *on, net.links, s, t, NO_GOAL);
+        Cut cut = least_cut_by(*of, *on, net.links, s, t);
         for (size_t k = 0; k < net.links; k++) out[k] = (int64_t)net.capacity[k] - on->residual[k][0];
         return cut;
     }
@@ -379,18 +384,11 @@ template <int W, bool Counting = false> struct Twin {
         return {o.side, h.old <= h.now ? o.value : o.value - (h.old - h.now), 0};
     }
 
-    // a hint: what the recorded side is worth after the change
-    static uint32_t expected(const Change &h, const OldStep &o)
-    {
-        if (!crosses(h, o) || h.now <= h.old) return o.value;
-        return o.value + (h.now - h.old);
-    }
-
     static StepCut take(const Shared &of, Scratch &on, size_t links, const Change &h, const OldStep &o, size_t s,
                         size_t t)
     {
         if (keeps(h, o, t)) return kept_cut(h, o);
-        Cut cut = least_cut_by(of, on, links, s, t, expected(h, o));
+        Cut cut = least_cut_by(of, on, links, s, t);
         return {cut.side, cut.value, 1};
     }
 
