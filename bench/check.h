@@ -128,7 +128,7 @@ inline void check_network(const Net &net, int changes, int pairs, Checked &check
 }
 
 // The networks that are timed, as they are and after changes; many with equal cuts and links without room; and many
-// with more parallel links than there are phases before a search, where searches find a way.
+// with more parallel links than there are phases before a search.
 inline std::string check_twin(const std::vector<std::vector<Net>> &sets)
 {
     Checked checked;
