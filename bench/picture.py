@@ -17,7 +17,8 @@ def y(t):
     return low - t / top * (low - 30)
 
 
-out = [f'<svg xmlns="http://www.w3.org/2000/svg" width="{width}" height="{height}" font-family="sans-serif" font-size="12">']
+font = 'font-family="sans-serif" font-size="12"'
+out = [f'<svg xmlns="http://www.w3.org/2000/svg" width="{width}" height="{height}" {font}>']
 out.append(f'<rect width="{width}" height="{height}" fill="white"/>')
 for i in range(6):
     t = top / 1.05 * i / 5
@@ -28,7 +29,8 @@ for n in nodes:
 for i, m in enumerate(links):
     shade = 200 - int(200 * i / (len(links) - 1))
     points = " ".join(f"{x(n):.1f},{y(time[n, m]):.1f}" for n in nodes)
-    out.append(f'<polyline points="{points}" fill="none" stroke="rgb({shade},{shade // 2 + 40},200)" stroke-width="2"/>')
+    colour = f"rgb({shade},{shade // 2 + 40},200)"
+    out.append(f'<polyline points="{points}" fill="none" stroke="{colour}" stroke-width="2"/>')
     out.append(f'<text x="{width - 104}" y="{y(time[nodes[-1], m]) + 4:.1f}">{m:.0f} links</text>')
 out.append(f'<text x="{(left + width - 110) / 2}" y="{low + 40}" text-anchor="middle">nodes</text>')
 out.append(f'<text x="16" y="20">opening a file, microseconds</text></svg>')

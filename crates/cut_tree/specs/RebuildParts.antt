@@ -1,8 +1,12 @@
--- What the contracts of a rebuild's parts cite; its own contract is `rebuilt`, and that of a first build `rule`. A step of the rule, and the
--- keeping test on the numbers that the code hands about: a changed link and a recorded step, without the network and the arrays.
+-- What the contracts of a rebuild's parts cite; its own contract is `rebuilt`, and that of a first build `rule`. A step
+-- of the rule, and the
+-- keeping test on the numbers that the code hands about: a changed link and a recorded step, without the network and
+-- the arrays.
 use Prim.Native.Nat.{ℕ, _+_, _-_, _≤_, _<_}
 use mathlib.Core.Path.{_≡_}
-use mathlib.Core.Bool.{Bool, true, _&&_}
+use mathlib.Core.Bool.{Bool, true, false, _&&_}
+use mathlib.Core.List.{List}
+use lib.ListN.{set}
 use lib.Dec.{eqb}
 use Rattle.min_cut.specs.Cut.{differ}
 use Rattle.min_cut.specs.Word.{holds}
@@ -10,7 +14,7 @@ use Rattle.network.specs.Basics.{pick, at}
 use Rattle.network.specs.Limits.{maxNodes, maxCapacity}
 use Rattle.network.specs.Network.{networkFits}
 use Rattle.network.specs.declared.Network.{Network}
-use Rattle.cut_tree.specs.Rule.{ruleBy, leastCut}
+use Rattle.cut_tree.specs.Rule.{moved, ruleBy, leastCut}
 use Rattle.cut_tree.specs.Rebuild.{survives}
 use Rattle.cut_tree.specs.declared.Steps.{Steps}
 use Rattle.cut_tree.specs.declared.Built.{Built}
@@ -23,12 +27,23 @@ use Rattle.cut_tree.specs.declared.keep.OldStep.{OldStep}
 abbrev pub movedOne : (p s t : ℕ) → ℕ
 movedOne p s t = pick (eqb p t) s p
 
--- a step that the code can take: of nodes, with a count that has room
-pub record StepReady (b : Built) (s t : ℕ) (x : StepCut) : Type 0 where
-  pub node : s < maxNodes
-  pub pivot : t < maxNodes
-  pub above : at (b .tree .parent) t < maxNodes
-  pub counted : b .count + x .anew < maxNodes
+-- the parents and the weights as s is placed, each by itself
+abbrev pub placedParents : Bool → List ℕ → (s t X : ℕ) → List ℕ
+placedParents false parent s t X = set (moved X s t 0 parent) s t
+placedParents true parent s t X = set (set (moved X s t 0 parent) s (at parent t)) t s
+
+abbrev pub placedWeights : Bool → List ℕ → (s t w : ℕ) → List ℕ
+placedWeights false weight s t w = set weight s w
+placedWeights true weight s t w = set (set weight s (at weight t)) t w
+
+-- a tree, its steps and a count by their arrays
+abbrev pub builtOf : (parent weight pivot side value : List ℕ) → ℕ → Built
+builtOf parent weight pivot side value count =
+    record {
+      tree = record { parent = parent; weight = weight };
+      steps = record { pivot = pivot; side = side; value = value };
+      count = count;
+    }
 
 -- ---- the keeping test
 -- link k of net goes to capacity d

@@ -16,10 +16,7 @@ use Rattle.node_set.specs.SetLaws.{removed-same, removed-other}
 use Rattle.network.specs.Basics.{pick, at}
 use Rattle.cut_tree.specs.Rule.{moved, placed, recorded, stepped}
 use Rattle.cut_tree.specs.RuleLaws.{length-moved, moved-at}
-use Rattle.cut_tree.specs.RebuildParts.{movedOne}
-use Rattle.cut_tree.specs.declared.Tree.{Tree}
-use Rattle.cut_tree.specs.declared.Steps.{Steps}
-use Rattle.cut_tree.specs.declared.Built.{Built}
+use Rattle.cut_tree.specs.RebuildParts.{movedOne, placedParents, placedWeights, builtOf}
 use Rattle.cut_tree.specs.declared.StepCut.{StepCut}
 
 -- ---- the nodes of the side, one by one
@@ -30,8 +27,11 @@ pub moved-not : (p s t : ℕ) → (p ≡ t → ⊥) → p ≡ movedOne p s t
 moved-not p s t n = rw (ne-eqb p t n)
 
 -- i is moved, and is no longer to go
-moved-less : (p : List ℕ) (x i s t : ℕ) → holds x i ≡ true → moved (removed x i) s t 0 (set p i (movedOne (at p i) s t)) ≡ moved x s t 0 p
-moved-less p x i s t h = ext-getD 0 (moved y s t 0 q) (moved x s t 0 p) (length-moved y s t 0 q ∙ length-set p i v ∙ sym (length-moved x s t 0 p)) each
+moved-less : (p : List ℕ) (x i s t : ℕ) → holds x i ≡ true
+    → moved (removed x i) s t 0 (set p i (movedOne (at p i) s t)) ≡ moved x s t 0 p
+moved-less p x i s t h =
+    ext-getD 0 (moved y s t 0 q) (moved x s t 0 p)
+    (length-moved y s t 0 q ∙ length-set p i v ∙ sym (length-moved x s t 0 p)) each
   where
     v : ℕ
     v = movedOne (at p i) s t
@@ -48,7 +48,8 @@ moved-less p x i s t h = ext-getD 0 (moved y s t 0 q) (moved x s t 0 p) (length-
         let lq : j < length q = omega (arith, length-moved y s t 0 q) in
         moved-at y s t 0 q j lq ∙ go lp (ℕ-discrete j i) ∙ sym (moved-at x s t 0 p j lp)
       where
-        go : j < length p → Dec (j ≡ i) → pick (holds y (0 + j) && eqb (at q j) t) s (at q j) ≡ pick (holds x (0 + j) && eqb (at p j) t) s (at p j)
+        go : j < length p → Dec (j ≡ i)
+            → pick (holds y (0 + j) && eqb (at q j) t) s (at q j) ≡ pick (holds x (0 + j) && eqb (at p j) t) s (at p j)
         go lp (yes e) =
             let o : 0 + i ≡ i = omega arith in
             let li : i < length p = rw e at lp in
@@ -58,30 +59,53 @@ moved-less p x i s t h = ext-getD 0 (moved y s t 0 q) (moved x s t 0 p) (length-
             rw (o, removed-other x i j n, getD-set-other p i j v 0 n)
 
 -- a turn of the loop
-pub moving-next : (p : List ℕ) (x i s t y v : ℕ) (r : List ℕ) → holds x i ≡ true → v ≡ movedOne (at p i) s t → y ≡ removed x i
+pub moving-next : (p : List ℕ) (x i s t y v : ℕ) (r : List ℕ) → holds x i ≡ true → v ≡ movedOne (at p i) s t
+    → y ≡ removed x i
     → moved x s t 0 p ≡ r → moved y s t 0 (set p i v) ≡ r
 moving-next p x i s t y v r h ev ey g = rw (ev, ey) (moved-less p x i s t h ∙ g)
 
 moved-none : (s t i : ℕ) (ps : List ℕ) → moved 0 s t i ps ≡ ps
 unfolding moved
 moved-none s t i [] = refl
-moved-none s t i (p ∷ ps) = rw (holds-out 0 0 i (omega arith) (omega arith)) (ap (λ (qs : List ℕ). p ∷ qs) (moved-none s t (suc i) ps))
+moved-none s t i (p ∷ ps) =
+    rw (holds-out 0 0 i (omega arith) (omega arith)) (ap (λ (qs : List ℕ). p ∷ qs) (moved-none s t (suc i) ps))
 
 pub moving-end : (p : List ℕ) (x s t : ℕ) (r : List ℕ) → x ≡ 0 → moved x s t 0 p ≡ r → p ≡ r
 moving-end p x s t r e g = sym (moved-none s t 0 p) ∙ (rw e at g)
 
 -- ---- a node placed
-module _ (tree : Tree) (s t X w : ℕ) (ps : List ℕ) (z : Bool) (e : ps ≡ moved X s t 0 (tree .parent)) (h : z ≡ holds X (at (tree .parent) t)) where
-  pub placed-between : z ≡ true → record { parent = set (set ps s (at (tree .parent) t)) t s; weight = set (set (tree .weight) s (at (tree .weight) t)) t w }
-      ≡ placed (holds X (at (tree .parent) t)) tree s t X w
-  placed-between q = rw (e, ← h, q) refl
+module _ (parent : List ℕ) (s t X : ℕ) (ps : List ℕ) (z : Bool) (e : ps ≡ moved X s t 0 parent) (h : z ≡ holds X (at parent t)) where
+  pub parents-between : z ≡ true → set (set ps s (at parent t)) t s ≡ placedParents (holds X (at parent t)) parent s t X
+  parents-between q = rw (e, ← h, q) refl
 
-  pub placed-beside : z ≡ false → record { parent = set ps s t; weight = set (tree .weight) s w } ≡ placed (holds X (at (tree .parent) t)) tree s t X w
-  placed-beside q = rw (e, ← h, q) refl
+  pub parents-beside : z ≡ false → set ps s t ≡ placedParents (holds X (at parent t)) parent s t X
+  parents-beside q = rw (e, ← h, q) refl
 
-pub stepped-by : (b : Built) (s t : ℕ) (x : StepCut) (tree : Tree) (steps : Steps)
-    → tree ≡ placed (holds (x .side) (at (b .tree .parent) t)) (b .tree) s t (x .side) (x .value)
-    → steps ≡ recorded (b .steps) s t (x .side) (x .value)
-    → record { tree = tree; steps = steps; count = b .count + x .anew } ≡ stepped b s t x
-unfolding stepped
-stepped-by b s t x tree steps e f = rw (e, f) refl
+module _ (weight : List ℕ) (s t w : ℕ) (y z : Bool) (h : z ≡ y) where
+  pub weights-between : z ≡ true → set (set weight s (at weight t)) t w ≡ placedWeights y weight s t w
+  weights-between q = rw (← h, q) refl
+
+  pub weights-beside : z ≡ false → set weight s w ≡ placedWeights y weight s t w
+  weights-beside q = rw (← h, q) refl
+
+-- a step, by its arrays
+module _ (parent weight pivot side value : List ℕ) (count s t : ℕ) (x : StepCut) where
+  abbrev z : Bool
+  z = holds (x .side) (at parent t)
+
+  pub stepped-by : (ps ws : List ℕ) → ps ≡ placedParents z parent s t (x .side)
+      → ws ≡ placedWeights z weight s t (x .value)
+      → builtOf ps ws (set pivot s t) (set side s (x .side)) (set value s (x .value)) (count + x .anew) ≡ stepped
+      (builtOf parent weight pivot side value count) s t x
+  unfolding stepped
+  stepped-by ps ws e f = rw (e, f) (go z)
+    where
+      go : (y : Bool)
+          → builtOf (placedParents y parent s t (x .side)) (placedWeights y weight s t (x .value)) (set pivot s t) (set side s (x .side)) (set value s (x .value)) (count + x .anew)
+          ≡ record {
+            tree = placed y (record { parent = parent; weight = weight }) s t (x .side) (x .value);
+            steps = recorded (record { pivot = pivot; side = side; value = value }) s t (x .side) (x .value);
+            count = count + x .anew;
+          }
+      go true = refl
+      go false = refl

@@ -1,13 +1,18 @@
-// The steps that can be kept as one capacity changes (document 01, "The plan and its changes"), and a step's cut: kept, or worked out.
+// The steps that can be kept as one capacity changes (document 01, "The plan and its changes"), and a step's cut: kept,
+// or worked out.
 use crate::StepCut;
+use flow_hints::HINTS;
+use flow_hints::TABLE;
 use max_flow::least_cut_by;
-use network::Incidence;
+use network::MAX_ARCS;
+use network::MAX_LINKS;
 use network::MAX_NODES;
-use network::Network;
 use node_set::contains;
 ghost use mathlib.Core.Path.{_≡_};
 ghost use Prim.Native.Nat.{_-_, _≤_};
+ghost use Rattle.max_flow.specs.Residuals.{fullResidual};
 ghost use Rattle.max_flow.specs.Search.{Ready};
+ghost use Rattle.network.specs.declared.Network.{Network};
 ghost use Rattle.cut_tree.specs.RebuildParts.{OfNodes, crossed, survived, keptBy, keptCut, taken};
 
 // A link between a and b whose capacity goes from `old` to `new`.
@@ -33,8 +38,8 @@ fn crosses(h: Change, o: OldStep) -> bool
     contains(o.side, h.a) != contains(o.side, h.b)
 }
 
-// Whether the cut of a step survives the change: the capacity is equal; or it rises and the side does not cross the link; or it falls, the
-// side crosses the link and its value is at least the fall.
+// Whether the cut of a step survives the change: the capacity is equal; or it rises and the side does not cross the
+// link; or it falls, the side crosses the link and its value is at least the fall.
 fn survives(h: Change, o: OldStep) -> bool
     requires { ⌜ OfNodes h ⌝ }
     ensures { λ r. ⌜ r ≡ survived h o ⌝ }
@@ -83,22 +88,30 @@ fn kept_cut(h: Change, o: OldStep) -> StepCut
 }
 
 // The cut of step s, whose pivot is now t: the recorded one where it is kept, else worked out on the new capacities.
+// The network is named in the contract, and not handed over: only what its cuts share.
 pub fn take(
-    net: Network,
-    arcs: Incidence,
-    near: [u64; MAX_NODES],
+    full: &[[u32; 2]; MAX_LINKS],
+    first: &[u16; MAX_NODES],
+    next: &[u16; MAX_ARCS],
+    to: &[u8; MAX_ARCS],
+    table: &[u16; TABLE],
+    start: &[u64; HINTS],
     h: Change,
     o: OldStep,
     s: usize,
     t: usize,
 ) -> StepCut
-    requires { ⌜ OfNodes h × Ready net (arcs .first) (arcs .next) (arcs .to) s t ⌝ }
-    ensures { λ r. ⌜ r ≡ taken net h o s t ⌝ }
+    requires { ⌜ OfNodes h ⌝ }
+    requires { ⌜ ((net : Network) × Ready net (now first) (now next) (now to) s t × (now full ≡ fullResidual net)) ⌝ }
+    ensures { λ r. ⌜ ((net : Network)
+        → Ready net (now (first .entry)) (now (next .entry)) (now (to .entry)) s t
+        → now (full .entry) ≡ fullResidual net
+        → r ≡ taken net h o s t) ⌝ }
 {
     if keeps(h, o, t) {
         return kept_cut(h, o);
     }
-    let cut = least_cut_by(net, arcs, near, s, t);
+    let cut = least_cut_by(full, first, next, to, table, start, s, t);
     StepCut {
         side: cut.side,
         value: cut.value,

@@ -1,4 +1,5 @@
--- That the answers are what their names say: the cut is the least minimum cut among all sides, and no lawful flow has a larger total.
+-- That the answers are what their names say: the cut is the least minimum cut among all sides, and no lawful flow has a
+-- larger total.
 use mathlib.Core.Path.{_≡_, refl}
 use Prim.Native.Nat.{ℕ}
 use mathlib.Core.List.{List}
@@ -26,7 +27,9 @@ module _ {net : Network} {s t : ℕ} (a : Endpoints net s t) where
   unfolding leastCutOf
   leastCutOf-value = refl
 
-  pub largest-maximum : (f : List ℤ) → LargestFlow net s t f → MaximumFlow (graph net) (net .nodes) s t (minCutValue net s t) (flowAt f)
+  pub largest-maximum : (f : List ℤ) → LargestFlow net s t f
+      → MaximumFlow (graph net) (net .nodes) s t (minCutValue net s t) (flowAt f)
   largest-maximum f h =
-      tight-maximum (graph net) (net .nodes) s t (ends-within net (a .fits)) (a .source) (flowAt f) (h .lawful .lawful) (holds (leastSide net s t))
+      tight-maximum (graph net) (net .nodes) s t (ends-within net (a .fits)) (a .source) (flowAt f) (h .lawful .lawful)
+      (holds (leastSide net s t))
       (least .minimum .inside) (least .minimum .outside) (h .total)

@@ -1,4 +1,5 @@
--- Worked examples, by evaluation: the least minimum cuts of document 01's resort A (its reading P2), and how residual capacities start, change
+-- Worked examples, by evaluation: the least minimum cuts of document 01's resort A (its reading P2), and how residual
+-- capacities start, change
 -- and are read as a flow.
 use mathlib.Core.Path.{_≡_, refl}
 use mathlib.Core.Bool.{true, false}
@@ -28,6 +29,6 @@ rows : (rowAfter true 5 5 2 ≡ 3 ∷ 7 ∷ []) × (rowAfter false 5 5 2 ≡ 7 �
 rows = (refl, refl)
 
 -- a link with 3 left of 5 carries 2 from a to b; one with 7 left of 5 carries 2 back
-carried : linkFlows (5 ∷ 5 ∷ []) ((3 ∷ 7 ∷ []) ∷ (7 ∷ 3 ∷ []) ∷ []) (pos 0 ∷ pos 0 ∷ []) ≡ pos 2 ∷ negℤ (pos 2) ∷ []
+carried : linkFlows ((5 ∷ 5 ∷ []) ∷ (5 ∷ 5 ∷ []) ∷ []) ((3 ∷ 7 ∷ []) ∷ (7 ∷ 3 ∷ []) ∷ []) (pos 0 ∷ pos 0 ∷ []) ≡ pos 2 ∷ negℤ (pos 2) ∷ []
 unfolding linkFlowsUpTo
 carried = refl

@@ -1,4 +1,5 @@
--- What the flow core answers for two nodes: the least minimum cut of (s, t), with its value ("The tree" of document 01).
+-- What the flow core answers for two nodes: the least minimum cut of (s, t), with its value ("The tree" of document
+-- 01).
 use mathlib.Core.Path.{_≡_}
 use mathlib.Core.Logic.{_≢_}
 use mathlib.Core.Bool.{true}

@@ -2,13 +2,13 @@ pub mod LeastCut
 pub mod LargestFlow
 pub mod Residuals
 pub mod ResidualLaws
-pub mod Neighbours
 pub mod Search
 pub mod SearchLaws
 pub mod Scan
 pub mod Push
-pub mod Augment
 pub mod Signed
 pub mod LinkFlows
+pub mod Send
+pub mod Augment
 pub mod AnswerLaws
 pub mod Examples

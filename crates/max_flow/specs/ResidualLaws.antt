@@ -6,18 +6,18 @@ use mathlib.Core.List.{List, [], _∷_}
 use Prim.Native.Nat.{ℕ, zero, suc, _+_, _*_, _/_, _%_, _<_, _≤_}
 use native.Mathlib.Omega.{arith}
 use native.Mathlib.Decide.{ℕ-discrete}
-use lib.ListN.{getD, set, length, length-set, length-replicate}
+use lib.ListN.{getD, set, length, length-set, length-replicate, getD-replicate}
 use lib.Seq.{getD-set-same, getD-set-other}
 use borrow.Author.Tests.{eqb-true, eqb-false}
 use Rattle.min_cut.specs.Sum.{sum-ext}
 use Rattle.min_cut.specs.Residual.{residual, ResidualFlow, Pushed, At, start, push-ahead, push-back}
 use Rattle.min_cut.specs.Arcs.{tail, tip, room, forward}
 use Rattle.network.specs.Basics.{at}
-use Rattle.network.specs.Limits.{maxLinks, maxCapacity}
+use Rattle.network.specs.Limits.{maxLinks, maxArcs, maxCapacity}
 use Rattle.network.specs.Network.{networkFits, graph}
 use Rattle.network.specs.NetworkLaws.{links-le, capacity-le}
 use Rattle.network.specs.declared.Network.{Network}
-use Rattle.max_flow.specs.Residuals.{ahead, back, roomOn, rowAfter, sentAlong, fullUpTo, fullResidual, Balanced}
+use Rattle.max_flow.specs.Residuals.{ahead, back, roomOn, rowAfter, sentAlong, fullUpTo, fullResidual, Balanced, Along}
 
 -- what the code reads
 pub room-read : (r : List (List ℕ)) (e : ℕ) → getD (getD r (e / 2) []) (e % 2) 0 ≡ roomOn r e
@@ -35,24 +35,37 @@ module _ (net : Network) where
   full-long zero = let row : List ℕ = 0 ∷ 0 ∷ [] in length-replicate maxLinks row
   full-long (suc k) = length-set (fullUpTo net k) k _ ∙ full-long k
 
-  full-at : (k j : ℕ) → j < k → k ≤ maxLinks → getD (fullUpTo net k) j [] ≡ at (net .capacity) j ∷ at (net .capacity) j ∷ []
+  full-at : (k j : ℕ) → j < k → k ≤ maxLinks
+      → getD (fullUpTo net k) j [] ≡ at (net .capacity) j ∷ at (net .capacity) j ∷ []
   unfolding fullUpTo
   full-at zero j l m = absurd (omega arith)
   full-at (suc k) j l m = go (ℕ-discrete j k) (λ q. full-at k j q (omega arith))
     where
       go : Dec (j ≡ k) → (j < k → getD (fullUpTo net k) j [] ≡ at (net .capacity) j ∷ at (net .capacity) j ∷ [])
-          → getD (set (fullUpTo net k) k (at (net .capacity) k ∷ at (net .capacity) k ∷ [])) j [] ≡ at (net .capacity) j ∷ at (net .capacity) j ∷ []
+          → getD (set (fullUpTo net k) k (at (net .capacity) k ∷ at (net .capacity) k ∷ [])) j [] ≡ at (net .capacity) j
+          ∷ at (net .capacity) j ∷ []
       go (yes e) ih = rw e (getD-set-same (fullUpTo net k) k _ [] (omega (arith, full-long k)))
       go (no n) ih = getD-set-other (fullUpTo net k) k j _ [] n ∙ ih (omega arith)
+
+  full-rest : (k j : ℕ) → k ≤ j → j < maxLinks → getD (fullUpTo net k) j [] ≡ 0 ∷ 0 ∷ []
+  unfolding fullUpTo
+  full-rest zero j l m = let row : List ℕ = 0 ∷ 0 ∷ [] in getD-replicate maxLinks j row [] m
+  full-rest (suc k) j l m = getD-set-other (fullUpTo net k) k j _ [] (λ e. omega arith) ∙ full-rest k j (omega arith) m
+
+  -- the capacity stands in the row
+  pub full-ahead : networkFits net ≡ true → (k : ℕ) → k < net .links → ahead (fullResidual net) k ≡ at (net .capacity) k
+  full-ahead h k l = rw (full-at (net .links) k l (links-le net h))
 
   pub full-balanced : networkFits net ≡ true → Balanced net (fullResidual net)
   full-balanced h =
       record {
         long = full-long (net .links);
         both = λ k l. rw (full-at (net .links) k l (links-le net h)) (omega arith);
+        none = λ k l m. rw (full-rest (net .links) k l m) refl;
       }
 
-  pub full-flow : networkFits net ≡ true → (s t : ℕ) → ResidualFlow (graph net) s t 0 (ahead (fullResidual net)) (back (fullResidual net))
+  pub full-flow : networkFits net ≡ true → (s t : ℕ)
+      → ResidualFlow (graph net) s t 0 (ahead (fullResidual net)) (back (fullResidual net))
   unfolding residual
   full-flow h s t X = omega (arith, start (graph net) s t X, same)
     where
@@ -60,15 +73,18 @@ module _ (net : Network) where
       same = sum-ext (net .links) _ _ (λ k l. rw (full-at (net .links) k l (links-le net h)))
 
 -- ---- d more is sent along arc e
-module _ {net : Network} {r : List (List ℕ)} (h : networkFits net ≡ true) (b : Balanced net r) (e d : ℕ) (el : e < 2 * net .links) (dl : d ≤ roomOn r e) where
+module _ {net : Network} {r : List (List ℕ)} {e d : ℕ} (a : Along net r e d) where
   abbrev k : ℕ
   k = e / 2
 
+  b : Balanced net r
+  b = a .balanced
+
   kl : e / 2 < net .links
-  kl = omega arith
+  kl = omega (arith, a .here)
 
   in-list : e / 2 < length r
-  in-list = omega (arith, b .long, links-le net h, kl)
+  in-list = omega (arith, b .long, links-le net (a .fits), kl)
 
   module _ (row : List ℕ) where
     same : getD (set r k row) k [] ≡ row
@@ -78,7 +94,8 @@ module _ {net : Network} {r : List (List ℕ)} (h : networkFits net ≡ true) (b
     other i n = getD-set-other r k i row [] n
 
     others : At k (ahead r) (back r) (ahead (set r k row)) (back (set r k row))
-    others = record { p-other = λ i n. ap (λ v. getD v 0 0) (other i n); q-other = λ i n. ap (λ v. getD v 1 0) (other i n) }
+    others =
+        record { p-other = λ i n. ap (λ v. getD v 0 0) (other i n); q-other = λ i n. ap (λ v. getD v 1 0) (other i n) }
 
   ahead-true : d ≤ ahead r k → ahead (set r k (rowAfter true (ahead r k) (back r k) d)) k + d ≡ ahead r k
   ahead-true z = rw (same (rowAfter true (ahead r k) (back r k) d)) (omega arith)
@@ -94,24 +111,31 @@ module _ {net : Network} {r : List (List ℕ)} (h : networkFits net ≡ true) (b
 
   pub along-pushed : Pushed (graph net) (tail (graph net) e) (tip (graph net) e) d (ahead r) (back r) (ahead (sentAlong r e d)) (back (sentAlong r e d))
   unfolding tail tip room
-  along-pushed = go (forward e) dl
+  along-pushed = go (forward e) (a .room)
     where
       go : (f : Bool) → d ≤ cond f (ahead r k) (back r k)
-          → Pushed (graph net) (cond f (graph net .a k) (graph net .b k)) (cond f (graph net .b k) (graph net .a k)) d (ahead r) (back r)
+          → Pushed (graph net) (cond f (graph net .a k) (graph net .b k)) (cond f (graph net .b k) (graph net .a k)) d
+          (ahead r) (back r)
           (ahead (set r k (rowAfter f (ahead r k) (back r k) d))) (back (set r k (rowAfter f (ahead r k) (back r k) d)))
-      go true z = push-ahead (graph net) (ahead r) (back r) _ _ k d kl (others (rowAfter true (ahead r k) (back r k) d)) (ahead-true z) back-true
-      go false z = push-back (graph net) (ahead r) (back r) _ _ k d kl (others (rowAfter false (ahead r k) (back r k) d)) ahead-false (back-false z)
+      go true z =
+          push-ahead (graph net) (ahead r) (back r) _ _ k d kl (others (rowAfter true (ahead r k) (back r k) d))
+          (ahead-true z) back-true
+      go false z =
+          push-back (graph net) (ahead r) (back r) _ _ k d kl (others (rowAfter false (ahead r k) (back r k) d))
+          ahead-false (back-false z)
 
   pub along-balanced : Balanced net (sentAlong r e d)
   unfolding room
   along-balanced =
       record {
         long = length-set r k _ ∙ b .long;
-        both = λ i il. go (forward e) dl i il (ℕ-discrete i k);
+        both = λ i il. go (forward e) (a .room) i il (ℕ-discrete i k);
+        none = λ i il im. rw (other _ i (λ q. omega (arith, kl))) (b .none i il im);
       }
     where
       go : (f : Bool) → d ≤ cond f (ahead r k) (back r k) → (i : ℕ) → i < net .links → Dec (i ≡ k)
-          → ahead (set r k (rowAfter f (ahead r k) (back r k) d)) i + back (set r k (rowAfter f (ahead r k) (back r k) d)) i ≡ 2 * at (net .capacity) i
+          → ahead (set r k (rowAfter f (ahead r k) (back r k) d)) i + back
+          (set r k (rowAfter f (ahead r k) (back r k) d)) i ≡ 2 * at (net .capacity) i
       go true z i il (yes q) = rw q (omega (arith, ahead-true z, back-true, b .both k kl))
       go false z i il (yes q) = rw q (omega (arith, ahead-false, back-false z, b .both k kl))
       go f z i il (no n) = rw (other (rowAfter f (ahead r k) (back r k) d) i n) (b .both i il)
@@ -123,7 +147,8 @@ module _ {net : Network} {r : List (List ℕ)} (h : networkFits net ≡ true) (b
     where
       go : (f : Bool) → forward e ≡ f → (g : Bool) → forward j ≡ g → Dec (j / 2 ≡ k)
           → cond g (ahead r (j / 2)) (back r (j / 2))
-          ≤ cond g (ahead (set r k (rowAfter f (ahead r k) (back r k) d)) (j / 2)) (back (set r k (rowAfter f (ahead r k) (back r k) d)) (j / 2))
+          ≤ cond g (ahead (set r k (rowAfter f (ahead r k) (back r k) d)) (j / 2))
+          (back (set r k (rowAfter f (ahead r k) (back r k) d)) (j / 2))
       go f z g q (no a) = rw (other (rowAfter f (ahead r k) (back r k) d) (j / 2) a) (omega arith)
       go true z true q (yes a) = absurd (n (omega (arith, eqb-true (e % 2) 0 z, eqb-true (j % 2) 0 q)))
       go true z false q (yes a) = rw a (omega (arith, back-true))
@@ -134,6 +159,9 @@ module _ {net : Network} {r : List (List ℕ)} (h : networkFits net ≡ true) (b
           absurd (n (omega (arith, u, v)))
 
   -- what the code asks before it changes the row
+  pub arc-lt : e < maxArcs
+  arc-lt = omega (arith, a .here, links-le net (a .fits))
+
   pub along-fits : (d ≤ cond (forward e) (ahead r (e / 2)) (back r (e / 2))) × (ahead r (e / 2) + back r (e / 2) ≤ 2 * maxCapacity)
   unfolding room
-  along-fits = (dl, omega (arith, b .both k kl, capacity-le net h k kl))
+  along-fits = (a .room, omega (arith, b .both k kl, capacity-le net (a .fits) k kl))

@@ -1,13 +1,24 @@
--- The residual capacities as the code holds them (document 01: "each link has two spare capacities, one each way"): a row of two for each link.
+-- The residual capacities as the code holds them (document 01: "each link has two spare capacities, one each way"): a
+-- row of two for each link.
 use mathlib.Core.Path.{_≡_}
-use mathlib.Core.Bool.{Bool, true, false}
+use mathlib.Core.Bool.{Bool, true, false, cond}
 use mathlib.Core.List.{List, [], _∷_}
-use Prim.Native.Nat.{ℕ, zero, suc, _+_, _-_, _*_, _/_, _<_}
+use Prim.Native.Nat.{ℕ, zero, suc, _+_, _-_, _*_, _/_, _<_, _≤_}
+use lib.Dec.{leb}
 use lib.ListN.{getD, set, length, replicate}
 use Rattle.min_cut.specs.Arcs.{room, forward}
+use Rattle.min_cut.specs.Residual.{ResidualFlow}
 use Rattle.network.specs.Basics.{at}
 use Rattle.network.specs.Limits.{maxLinks}
+use Rattle.network.specs.Network.{networkFits, graph}
 use Rattle.network.specs.declared.Network.{Network}
+
+-- no limit to what can be sent: more than any cut's value
+abbrev pub unlimited : ℕ
+unlimited = 4294967295
+
+abbrev pub lesserOf : ℕ → ℕ → ℕ
+lesserOf a b = cond (leb a b) a b
 
 -- link k's residual capacity from a to b, and the one back
 abbrev pub ahead : List (List ℕ) → ℕ → ℕ
@@ -37,7 +48,20 @@ fullUpTo net (suc k) = set (fullUpTo net k) k (at (net .capacity) k ∷ at (net 
 abbrev pub fullResidual : Network → List (List ℕ)
 fullResidual net = fullUpTo net (net .links)
 
--- the two of each link are together twice its capacity, whatever is sent
+-- the two of each link are together twice its capacity, whatever is sent; unused rows are 0
 pub record Balanced (net : Network) (r : List (List ℕ)) : Type 0 where
   pub long : length r ≡ maxLinks
   pub both : (k : ℕ) → k < net .links → ahead r k + back r k ≡ 2 * at (net .capacity) k
+  pub none : (k : ℕ) → net .links ≤ k → k < maxLinks → ahead r k + back r k ≡ 0
+
+-- d may be sent along arc e
+pub record Along (net : Network) (r : List (List ℕ)) (e d : ℕ) : Type 0 where
+  pub fits : networkFits net ≡ true
+  pub balanced : Balanced net r
+  pub here : e < 2 * net .links
+  pub room : d ≤ roomOn r e
+
+-- r holds a flow of v from s to t
+pub record Flowing (net : Network) (s t v : ℕ) (r : List (List ℕ)) : Type 0 where
+  pub balanced : Balanced net r
+  pub flow : ResidualFlow (graph net) s t v (ahead r) (back r)

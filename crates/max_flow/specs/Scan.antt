@@ -1,13 +1,11 @@
 -- What the loops of the search keep: the one over the places of the tree, and the one over a node's own arcs.
 use mathlib.Core.Path.{_≡_, refl, sym, ap, subst, _∙_}
-use mathlib.Core.Bool.{Bool, true, false, cond, true≢false}
+use mathlib.Core.Bool.{true, false, true≢false}
 use mathlib.Core.List.{List, []}
 use Prim.Native.Nat.{ℕ, _+_, _-_, _*_, _/_, _%_, _<_, _≤_}
 use native.Mathlib.Omega.{arith}
 use native.Mathlib.Decide.{ℕ-discrete, decLt}
-use lib.Dec.{eqb}
 use lib.ListN.{getD}
-use borrow.Author.Tests.{eqb-true, eqb-false}
 use Rattle.min_cut.specs.Word.{holds}
 use Rattle.min_cut.specs.Arcs.{tail, tip}
 use Rattle.network.specs.Basics.{at}
@@ -18,15 +16,18 @@ use Rattle.network.specs.Incidence.{Chains, Leaves}
 use Rattle.network.specs.declared.Network.{Network}
 use Rattle.node_set.specs.Set.{empty, added}
 use Rattle.node_set.specs.SetLaws.{holds-empty, added-same, added-other}
-use Rattle.max_flow.specs.Residuals.{roomOn}
+use Rattle.max_flow.specs.Residuals.{lesserOf, roomOn}
 use Rattle.max_flow.specs.ResidualLaws.{room-read}
-use Rattle.max_flow.specs.Search.{seedOf, grown, lesserOf, pastOf, Ready, TreeFrom, Searched}
-use Rattle.max_flow.specs.SearchLaws.{Visited, visited-old, visited-new, seed-tree, inside, place-lt, node-lt, free, tip-lt}
+use Rattle.max_flow.specs.Search.{seedOf, grown, Ready, TreeFrom, Searched}
+use Rattle.max_flow.specs.SearchLaws.{Visited, visited-old, visited-new}
+use Rattle.max_flow.specs.SearchLaws.{seed-tree, inside, place-lt, node-lt, free, tip-lt}
 use Rattle.max_flow.specs.declared.search.SearchTree.{SearchTree}
 
 -- each arc of u from e on that has room leads to a node that is reached
 abbrev pub Done : Network → List (List ℕ) → SearchTree → (u e : ℕ) → Type 0
-Done net r w u e = (j : ℕ) → j < 2 * net .links → e ≤ j → tail (graph net) j ≡ u → 0 < roomOn r j → holds (w .reached) (tip (graph net) j) ≡ true
+Done net r w u e =
+    (j : ℕ) → j < 2 * net .links → e ≤ j → tail (graph net) j ≡ u → 0 < roomOn r j
+    → holds (w .reached) (tip (graph net) j) ≡ true
 
 -- t is not reached, and the places before i are done
 pub record Outer (net : Network) (r : List (List ℕ)) (s t : ℕ) (w : SearchTree) (i : ℕ) : Type 0 where
@@ -34,52 +35,35 @@ pub record Outer (net : Network) (r : List (List ℕ)) (s t : ℕ) (w : SearchTr
   pub missed : holds (w .reached) t ≡ false
   pub past : (k : ℕ) → k < i → Done net r w (at (w .node) k) 0
 
--- and the place at hand is i or a later one
-pub record Going (net : Network) (r : List (List ℕ)) (s t : ℕ) (w : SearchTree) (i p : ℕ) : Type 0 where
+-- and at i, where u stands, the arcs from e on are done
+pub record Inner (net : Network) (r : List (List ℕ)) (s t : ℕ) (w : SearchTree) (i u e : ℕ) : Type 0 where
   pub outer : Outer net r s t w i
-  pub ahead : i ≤ p
-  pub within : i < w .count → p < w .count
-
--- and at p, where u stands, the arcs from e on are done
-pub record Inner (net : Network) (r : List (List ℕ)) (s t : ℕ) (w : SearchTree) (i p u e : ℕ) : Type 0 where
-  pub outer : Outer net r s t w i
-  pub ahead : i ≤ p
-  pub here : p < w .count
-  pub node : at (w .node) p ≡ u
+  pub here : i < w .count
+  pub node : at (w .node) i ≡ u
   pub chain : Leaves net u (2 * net .links) e
   pub done : Done net r w u e
 
 -- what the code relies on at a place of the tree
-pub record Placed (first : List ℕ) (w : SearchTree) (i p : ℕ) : Type 0 where
-  pub done : i < maxNodes
-  pub place : p < maxNodes
-  pub node : at (w .node) p < maxNodes
-  pub chain : at first (at (w .node) p) ≤ maxArcs
+pub record Placed (first : List ℕ) (w : SearchTree) (i : ℕ) : Type 0 where
+  pub place : i < maxNodes
+  pub node : at (w .node) i < maxNodes
+  pub chain : at first (at (w .node) i) ≤ maxArcs
 
--- what the code relies on at arc e - 1 of the node at place p
-pub record Looking (next to : List ℕ) (w : SearchTree) (i p e : ℕ) : Type 0 where
+-- what the code relies on at arc e - 1 of the node at place i
+pub record Looking (next to : List ℕ) (w : SearchTree) (i e : ℕ) : Type 0 where
   pub arc : e - 1 < maxArcs
   pub node : at to (e - 1) < maxNodes
-  pub done : i < maxNodes
-  pub place : p < maxNodes
+  pub place : i < maxNodes
   pub free : holds (w .reached) (at to (e - 1)) ≡ false → w .count < maxNodes
   pub falls : at next (e - 1) < e
 
 -- arc e - 1 leads to a new node, and w' is the tree with it
-pub record Fresh (to : List ℕ) (r : List (List ℕ)) (w : SearchTree) (p e : ℕ) (w' : SearchTree) : Type 0 where
+pub record Fresh (to : List ℕ) (r : List (List ℕ)) (w : SearchTree) (i e : ℕ) (w' : SearchTree) : Type 0 where
   pub amount : ℕ
-  pub most : amount ≡ lesserOf (getD (getD r ((e - 1) / 2) []) ((e - 1) % 2) 0) (at (w .bottleneck) p)
+  pub most : amount ≡ lesserOf (getD (getD r ((e - 1) / 2) []) ((e - 1) % 2) 0) (at (w .bottleneck) i)
   pub some : 0 < getD (getD r ((e - 1) / 2) []) ((e - 1) % 2) 0
   pub new : holds (w .reached) (at to (e - 1)) ≡ false
-  pub tree : w' ≡ grown w p (e - 1) (at to (e - 1)) amount
-
--- what the loop over the places counts down
-pub past-falls : (i p : ℕ) → i ≤ p → i < maxNodes → 2 * (maxNodes - pastOf i p) + pastOf i p < 2 * (maxNodes - i) + p
-past-falls i p a l = go (eqb p i) refl
-  where
-    go : (b : Bool) → eqb p i ≡ b → 2 * (maxNodes - cond b (i + 1) i) + cond b (i + 1) i < 2 * (maxNodes - i) + p
-    go true e = omega (arith, eqb-true p i e)
-    go false e = let n = eqb-false p i e in omega (arith, n)
+  pub tree : w' ≡ grown w i (e - 1) (at to (e - 1)) amount
 
 module _ {net : Network} {first next to : List ℕ} {s t : ℕ} (a : Ready net first next to s t) where
   h : networkFits net ≡ true
@@ -89,76 +73,65 @@ module _ {net : Network} {first next to : List ℕ} {s t : ℕ} (a : Ready net f
   c = a .chains
 
   -- ---- the loop over the places
-  pub going-start : (r : List (List ℕ)) (w : SearchTree) → w ≡ seedOf s → Going net r s t w 0 0
-  going-start r w e =
-      record {
-        outer =
-            rw e
-            (record {
-              tree = seed-tree net r s (a .ends .source);
-              missed = added-other empty s t (λ q. a .ends .apart (sym q)) ∙ holds-empty t;
-              past = λ k q. absurd (omega arith);
-            });
-        ahead = omega arith;
-        within = λ l. l;
-      }
+  pub outer-start : (r : List (List ℕ)) (w : SearchTree) → w ≡ seedOf s → Outer net r s t w 0
+  outer-start r w e =
+      rw e
+      (record {
+        tree = seed-tree net r s (a .ends .source);
+        missed = added-other empty s t (λ q. a .ends .apart (sym q)) ∙ holds-empty t;
+        past = λ k q. absurd (omega arith);
+      })
 
-  module _ {r : List (List ℕ)} {w : SearchTree} {i p : ℕ} (o : Going net r s t w i p) where
-    pub going-end : w .count ≤ i → Searched net r s t w
-    going-end l =
+  module _ {r : List (List ℕ)} {w : SearchTree} {i : ℕ} (o : Outer net r s t w i) where
+    pub outer-end : w .count ≤ i → Searched net r s t w
+    outer-end l =
         record {
-          tree = o .outer .tree;
-          hit = λ q. absurd (true≢false (sym q ∙ o .outer .missed));
+          tree = o .tree;
+          hit = λ q. absurd (true≢false (sym q ∙ o .missed));
           miss = λ q e el z y.
-              let k = o .outer .tree .listed (tail (graph net) e) y in
-              o .outer .past (k .0) (omega (arith, k .1)) e el (omega arith) (sym (k .2)) z;
+              let k = o .tree .listed (tail (graph net) e) y in
+              o .past (k .0) (omega (arith, k .1)) e el (omega arith) (sym (k .2)) z;
         }
 
-    pub placed : i < w .count → Placed first w i p
+    pub placed : i < w .count → Placed first w i
     placed l =
-        let f = o .outer .tree in
-        let q = o .within l in
+        let f = o .tree in
+        let leaves = c .first-leaves (at (w .node) i) (inside f (at (w .node) i) (f .held i l)) in
         record {
-          done = place-lt f h i l;
-          place = place-lt f h p q;
-          node = node-lt f h p q;
-          chain = omega (arith, c .first-leaves (at (w .node) p) (inside f (at (w .node) p) (f .held p q)) .under, links-le net h);
+          place = place-lt f h i l;
+          node = node-lt f h i l;
+          chain = omega (arith, leaves .under, links-le net h);
         }
 
-    pub inner-start : i < w .count → Inner net r s t w i p (at (w .node) p) (at first (at (w .node) p))
+    pub inner-start : i < w .count → Inner net r s t w i (at (w .node) i) (at first (at (w .node) i))
     inner-start l =
         record {
-          outer = o .outer;
-          ahead = o .ahead;
-          here = o .within l;
+          outer = o;
+          here = l;
           node = refl;
-          chain = c .first-leaves (at (w .node) p) (inside (o .outer .tree) (at (w .node) p) (o .outer .tree .held p (o .within l)));
+          chain = c .first-leaves (at (w .node) i) (inside (o .tree) (at (w .node) i) (o .tree .held i l));
           done = λ j jl q d z. absurd (omega (arith, rw d at (c .first-last j jl)));
         }
 
-  -- p is done
-  pub going-next : {r : List (List ℕ)} {w : SearchTree} {i p u : ℕ} → Inner net r s t w i p u 0 → Going net r s t w (pastOf i p) (pastOf i p)
-  going-next {r} {w} {i} {p} o = go (eqb p i) refl
+  -- i is done
+  pub outer-next : {r : List (List ℕ)} {w : SearchTree} {i u : ℕ} → Inner net r s t w i u 0 → Outer net r s t w (i + 1)
+  outer-next {r} {w} {i} o =
+      record {
+        tree = o .outer .tree;
+        missed = o .outer .missed;
+        past = λ k l. go k l (ℕ-discrete k i);
+      }
     where
-      past' : p ≡ i → (k : ℕ) → k < i + 1 → Dec (k ≡ i) → Done net r w (at (w .node) k) 0
-      past' q k l (yes e) = rw (e, ← q, o .node) (o .done)
-      past' q k l (no d) = o .outer .past k (omega arith)
-
-      go : (b : Bool) → eqb p i ≡ b → Going net r s t w (cond b (i + 1) i) (cond b (i + 1) i)
-      go true e =
-          record {
-            outer = record { tree = o .outer .tree; missed = o .outer .missed; past = λ k l. past' (eqb-true p i e) k l (ℕ-discrete k i) };
-            ahead = omega arith;
-            within = λ l. l;
-          }
-      go false e = record { outer = o .outer; ahead = omega arith; within = λ l. l }
+      go : (k : ℕ) → k < i + 1 → Dec (k ≡ i) → Done net r w (at (w .node) k) 0
+      go k l (yes e) = rw (e, o .node) (o .done)
+      go k l (no d) = o .outer .past k (omega arith)
 
   -- ---- the loop over a node's arcs: arc e - 1 is looked at
-  module _ {r : List (List ℕ)} {w : SearchTree} {i p u e : ℕ} (o : Inner net r s t w i p u e) (some : 0 < e) where
+  module _ {r : List (List ℕ)} {w : SearchTree} {i u e : ℕ} (o : Inner net r s t w i u e) (some : 0 < e) where
     el : e - 1 < 2 * net .links
     el = omega (arith, o .chain .under)
 
-    et : tail (graph net) (e - 1) ≡ at (w .node) p
+    et : tail (graph net) (e - 1) ≡ at (w .node) i
     et = o .chain .from some ∙ sym (o .node)
 
     leads-to : at to (e - 1) ≡ tip (graph net) (e - 1)
@@ -170,19 +143,18 @@ module _ {net : Network} {first next to : List ℕ} {s t : ℕ} (a : Ready net f
     x-lt : at to (e - 1) < net .nodes
     x-lt = rw leads-to (tip-lt net h (e - 1) el)
 
-    pub looking : Looking next to w i p e
+    pub looking : Looking next to w i e
     looking =
-        let q = place-lt (o .outer .tree) h p (o .here) in
         record {
           arc = omega (arith, el, links-le net h);
           node = omega (arith, x-lt, nodes-le net h);
-          done = omega (arith, q, o .ahead);
-          place = q;
+          place = place-lt (o .outer .tree) h i (o .here);
           free = λ new. omega (arith, free (o .outer .tree) (at to (e - 1)) x-lt new, nodes-le net h);
           falls = omega (arith, c .next-leaves (e - 1) el .under);
         }
 
-    inner-next : {w' : SearchTree} → Visited net r s w (e - 1) w' → holds (w' .reached) t ≡ false → Inner net r s t w' i p u (at next (e - 1))
+    inner-next : {w' : SearchTree} → Visited net r s w (e - 1) w' → holds (w' .reached) t ≡ false
+        → Inner net r s t w' i u (at next (e - 1))
     inner-next {w'} seen q =
         record {
           outer =
@@ -191,11 +163,10 @@ module _ {net : Network} {first next to : List ℕ} {s t : ℕ} (a : Ready net f
                 missed = q;
                 past = λ k l j jl z y q1.
                     seen .keeps (tip (graph net) j)
-                    (o .outer .past k l j jl z (y ∙ seen .keeps-node k (omega (arith, o .here, o .ahead))) q1);
+                    (o .outer .past k l j jl z (y ∙ seen .keeps-node k (omega (arith, o .here))) q1);
               };
-          ahead = o .ahead;
           here = omega (arith, seen .more, o .here);
-          node = seen .keeps-node p (o .here) ∙ o .node;
+          node = seen .keeps-node i (o .here) ∙ o .node;
           chain = record { under = omega (arith, n .under, el); from = λ q1. n .from q1 ∙ o .chain .from some };
           done = λ j jl z y q1. go j jl z y q1 (decLt j e) (ℕ-discrete j (e - 1));
         }
@@ -203,47 +174,48 @@ module _ {net : Network} {first next to : List ℕ} {s t : ℕ} (a : Ready net f
         n : Leaves net (tail (graph net) (e - 1)) (e - 1) (at next (e - 1))
         n = c .next-leaves (e - 1) el
 
-        go : (j : ℕ) → j < 2 * net .links → at next (e - 1) ≤ j → tail (graph net) j ≡ u → 0 < roomOn r j → Dec (j < e) → Dec (j ≡ e - 1) → holds (w' .reached) (tip (graph net) j) ≡ true
+        go : (j : ℕ) → j < 2 * net .links → at next (e - 1) ≤ j → tail (graph net) j ≡ u → 0 < roomOn r j
+            → Dec (j < e) → Dec (j ≡ e - 1) → holds (w' .reached) (tip (graph net) j) ≡ true
         go j jl z y q1 (no b) d = seen .keeps (tip (graph net) j) (o .done j jl (omega arith) y q1)
-        go j jl z y q1 (yes b) (yes d) = ap (λ j. holds (w' .reached) (tip (graph net) j)) d ∙ seen .takes (subst (λ j. 0 < roomOn r j) d q1)
-        go j jl z y q1 (yes b) (no d) = absurd (omega (arith, c .next-last (e - 1) j el (omega arith) (y ∙ sym (o .chain .from some))))
+        go j jl z y q1 (yes b) (yes d) =
+            ap (λ j. holds (w' .reached) (tip (graph net) j)) d ∙ seen .takes (subst (λ j. 0 < roomOn r j) d q1)
+        go j jl z y q1 (yes b) (no d) =
+            absurd (omega (arith, c .next-last (e - 1) j el (omega arith) (y ∙ sym (o .chain .from some))))
 
     -- it has no room
-    pub next-full : getD (getD r ((e - 1) / 2) []) ((e - 1) % 2) 0 ≤ 0 → Inner net r s t w i p u (at next (e - 1))
-    next-full q = inner-next (visited-old (o .outer .tree) (e - 1) (λ z. absurd (omega (arith, room-read r (e - 1))))) (o .outer .missed)
+    pub next-full : getD (getD r ((e - 1) / 2) []) ((e - 1) % 2) 0 ≤ 0 → Inner net r s t w i u (at next (e - 1))
+    next-full q =
+        let full = visited-old (o .outer .tree) (e - 1) (λ z. absurd (omega (arith, room-read r (e - 1)))) in
+        inner-next full (o .outer .missed)
 
     -- it leads to a node that is reached
-    pub next-held : holds (w .reached) x ≡ true → Inner net r s t w i p u (at next (e - 1))
-    next-held q = inner-next (visited-old (o .outer .tree) (e - 1) (λ z. ap (holds (w .reached)) (sym leads-to) ∙ q)) (o .outer .missed)
+    pub next-held : holds (w .reached) x ≡ true → Inner net r s t w i u (at next (e - 1))
+    next-held q =
+        let held = visited-old (o .outer .tree) (e - 1) (λ z. ap (holds (w .reached)) (sym leads-to) ∙ q) in
+        inner-next held (o .outer .missed)
 
     -- it leads to a new one
-    module _ {w' : SearchTree} (f : Fresh to r w p e w') where
+    module _ {w' : SearchTree} (f : Fresh to r w i e w') where
       seen : Visited net r s w (e - 1) w'
       seen =
+          let most = rw room-read at (f .most) in
+          let some = rw room-read at (f .some) in
           rw (f .tree)
-          (visited-new (o .outer .tree) (e - 1) h p (o .here) el et x (f .amount) leads-to (rw room-read at (f .most)) (rw room-read at (f .some)) (f .new))
+          (visited-new (o .outer .tree) (e - 1) h i (o .here) el et x (f .amount) leads-to most some (f .new))
 
       holds-new : (y : ℕ) → holds (w' .reached) y ≡ holds (added (w .reached) x) y
       holds-new y = ap (λ (v : SearchTree). holds (v .reached) y) (f .tree)
 
-      pub next-new : (x ≡ t → ⊥) → Inner net r s t w' i p u (at next (e - 1))
+      pub next-new : (x ≡ t → ⊥) → Inner net r s t w' i u (at next (e - 1))
       next-new z = inner-next seen (holds-new t ∙ added-other (w .reached) x t (λ y. z (sym y)) ∙ o .outer .missed)
 
       -- to t
       pub hit-new : x ≡ t → Searched net r s t w'
       hit-new z =
-          let y : holds (w' .reached) t ≡ true = holds-new t ∙ ap (holds (added (w .reached) x)) (sym z) ∙ added-same (w .reached) x in
+          let same = ap (holds (added (w .reached) x)) (sym z) ∙ added-same (w .reached) x in
+          let y : holds (w' .reached) t ≡ true = holds-new t ∙ same in
           record {
             tree = seen .tree;
             hit = λ g. seen .last t g (o .outer .missed);
             miss = λ g. absurd (true≢false (sym y ∙ g));
-          }
-
-      -- on to the node that was reached
-      pub jump-new : (x ≡ t → ⊥) → Going net r s t w' i (w .count)
-      jump-new z =
-          record {
-            outer = next-new z .outer;
-            ahead = omega (arith, o .ahead, o .here);
-            within = λ l. let g : w' .count ≡ w .count + 1 = ap (λ (v : SearchTree). v .count) (f .tree) in omega arith;
           }

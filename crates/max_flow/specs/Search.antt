@@ -1,11 +1,11 @@
--- What a search for an augmenting path is handed, and what it promises: a tree of nodes reached over arcs that have room, which either ends
+-- What a search for an augmenting path is handed, and what it promises: a tree of nodes reached over arcs that have
+-- room, which either ends
 -- at the sink or is closed. In which order the search goes is not said.
 use mathlib.Core.Path.{_≡_}
 use mathlib.Core.Logic.{_≢_}
-use mathlib.Core.Bool.{true, false, cond}
+use mathlib.Core.Bool.{true, false}
 use mathlib.Core.List.{List}
 use Prim.Native.Nat.{ℕ, _+_, _-_, _*_, _^_, _<_, _≤_}
-use lib.Dec.{eqb, leb}
 use lib.ListN.{set, length, replicate}
 use Rattle.min_cut.specs.Word.{holds}
 use Rattle.min_cut.specs.Arcs.{tail, tip, Shut}
@@ -16,7 +16,7 @@ use Rattle.network.specs.Incidence.{Chains}
 use Rattle.network.specs.declared.Network.{Network}
 use Rattle.node_set.specs.Set.{empty, added, size}
 use Rattle.max_flow.specs.LeastCut.{Endpoints}
-use Rattle.max_flow.specs.Residuals.{ahead, back, roomOn}
+use Rattle.max_flow.specs.Residuals.{unlimited, ahead, back, roomOn}
 use Rattle.max_flow.specs.declared.search.SearchTree.{SearchTree}
 
 -- two nodes, and the chains of the network's arcs
@@ -34,7 +34,7 @@ seedBy s reached =
       node = replicate maxNodes s;
       arc = replicate maxNodes 0;
       from = replicate maxNodes 0;
-      bottleneck = replicate maxNodes 4294967295;
+      bottleneck = replicate maxNodes unlimited;
     }
 
 abbrev pub seedOf : ℕ → SearchTree
@@ -54,13 +54,6 @@ grownBy w i e x d reached =
 
 abbrev pub grown : SearchTree → (i e x d : ℕ) → SearchTree
 grown w i e x d = grownBy w i e x d (added (w .reached) x)
-
-abbrev pub lesserOf : ℕ → ℕ → ℕ
-lesserOf a b = cond (leb a b) a b
-
--- the place up to which all are done, once p is
-abbrev pub pastOf : ℕ → ℕ → ℕ
-pastOf i p = cond (eqb p i) (i + 1) i
 
 -- how the node at place i was entered
 pub record Entered (net : Network) (r : List (List ℕ)) (w : SearchTree) (i : ℕ) : Type 0 where

@@ -21,8 +21,8 @@ use Rattle.network.specs.declared.Network.{Network}
 use Rattle.node_set.specs.Set.{empty, added}
 use Rattle.node_set.specs.SetLaws.{holds-empty, empty-lt, added-same, added-other, added-keeps, added-lt}
 use Rattle.node_set.specs.SizeLaws.{size-le, size-empty, size-added, member-lt}
-use Rattle.max_flow.specs.Residuals.{ahead, back, roomOn}
-use Rattle.max_flow.specs.Search.{seedOf, grown, lesserOf, Entered, TreeFrom}
+use Rattle.max_flow.specs.Residuals.{lesserOf, ahead, back, roomOn}
+use Rattle.max_flow.specs.Search.{seedOf, grown, Entered, TreeFrom}
 use Rattle.max_flow.specs.declared.search.SearchTree.{SearchTree}
 
 lesser-fits : (a b : ℕ) → 0 < a → 0 < b → (0 < lesserOf a b) × (lesserOf a b ≤ a) × (lesserOf a b ≤ b)

@@ -1,101 +1,92 @@
-// Residual capacities (document 01: each link has two spare capacities, one each way), and flow sent along one path after another.
+// Flow sent from s to t until no search reaches t: in phases as far as the hints lead, then along a path that a search
+// finds.
 use crate::Cut;
-use crate::hints::note_sent;
-use crate::hints::sweep;
+use crate::flows::write_flow;
+use crate::residual::along;
 use crate::search::SearchTree;
 use crate::search::search;
-use network::Incidence;
+use crate::send::send_all;
+use flow_hints::HINTS;
+use flow_hints::TABLE;
+use flow_hints::note_way;
+use network::MAX_ARCS;
 use network::MAX_LINKS;
 use network::MAX_NODES;
-use network::Network;
 use node_set::contains;
-ghost use mathlib.Core.Bool.{true, cond};
+ghost use lib.ListN.{length};
 ghost use mathlib.Core.Path.{_≡_};
-ghost use Prim.Native.Nat.{ℕ, _+_, _*_, _≤_};
+ghost use Prim.Native.Nat.{ℕ, _≤_};
 ghost use Rattle.max_flow.specs.Augment.{Augmented};
 ghost use Rattle.max_flow.specs.Push.{Sending, Sent};
-ghost use Rattle.max_flow.specs.Residuals.{fullResidual, rowAfter};
+ghost use Rattle.max_flow.specs.Residuals.{fullResidual};
 ghost use Rattle.max_flow.specs.Search.{Ready};
-ghost use Rattle.min_cut.specs.Arcs.{forward};
-ghost use Rattle.network.specs.Limits.{maxCapacity};
-ghost use Rattle.network.specs.Network.{networkFits};
+ghost use Rattle.network.specs.declared.Network.{Network};
 
-// Nothing is sent yet: each link may take its capacity each way.
-pub fn full_residual(net: Network) -> [[u32; 2]; MAX_LINKS]
-    requires { ⌜ networkFits net ≡ true ⌝ }
-    ensures { λ r. ⌜ r ≡ fullResidual net ⌝ }
+// d is sent from the first node of the tree to the one reached last, link by link: what that leaves of the residual
+// capacities.
+fn push(
+    tree: SearchTree,
+    d: u32,
+    hints: &mut [u64; HINTS],
+    residual: [[u32; 2]; MAX_LINKS],
+) -> [[u32; 2]; MAX_LINKS]
+    requires { ⌜ ((net : Network) × (s : ℕ) × Sending net s residual tree d) ⌝ }
+    ensures { λ r. ⌜ ((net : Network) (s : ℕ) → Sending net s residual tree d → Sent net s residual tree d r) ⌝ }
 {
-    let m = net.links;
-    let mut residual = [[0u32; 2]; MAX_LINKS];
-    for k in 0..m {
-        let c = net.capacity[k];
-        let row = [c, c];
-        residual[k] = row;
-    }
-    residual
-}
-
-// a link's residual capacities x and y after d more is sent along arc e of it: what is taken from one way is added to the other
-fn row_after(x: u32, y: u32, e: usize, d: u32) -> [u32; 2]
-    requires { ⌜ (d ≤ cond (forward e) x y) × (x + y ≤ 2 * maxCapacity) ⌝ }
-    ensures { λ r. ⌜ r ≡ rowAfter (forward e) x y d ⌝ }
-{
-    if e % 2 == 0 {
-        return [x - d, y + d];
-    }
-    [x + d, y - d]
-}
-
-// What can be sent to the node reached last is sent to it from the first, link by link along the tree; how much that is.
-fn push(tree: SearchTree, into: &mut [u64; MAX_NODES], residual: &mut [[u32; 2]; MAX_LINKS]) -> u32
-    requires { ⌜ ((net : Network) × (s : ℕ) × Sending net s (now residual) tree) ⌝ }
-    ensures { λ r. ⌜ ((net : Network) (s : ℕ) → Sending net s (now (residual .entry)) tree → Sent net s (now (residual .entry)) tree r (now (residual .exit))) ⌝ }
-{
+    let mut left = residual;
     let mut i = tree.count - 1;
-    let d = tree.bottleneck[i];
     while i > 0 {
         let e = tree.arc[i] as usize;
         let f = tree.from[i] as usize;
         let u = tree.node[f] as usize;
         let v = tree.node[i] as usize;
-        let k = e / 2;
-        let x = residual[k][0];
-        let y = residual[k][1];
-        let row = row_after(x, y, e, d);
-        residual[k] = row;
-        note_sent(into, u, v, row[e % 2]);
+        along(&mut left, e, d);
+        note_way(hints, u, v);
         i = f;
     }
-    d
+    left
 }
 
-// Flow is sent along one augmenting path after another until no search reaches t. What was reached then is the least minimum cut.
-// `near` is a hint. The network whose arcs and residual capacities these are is named in the contract, and not handed over.
+// Flow is sent until no search reaches t. What was reached then is the least minimum cut, and what each link carries is
+// written to `out`, as far as that has places. The table and the hints to start with are hints. The network whose arcs
+// and full residual capacities these are is named in the contract, and not handed over.
 pub fn augment(
-    arcs: Incidence,
-    near: [u64; MAX_NODES],
-    residual: &mut [[u32; 2]; MAX_LINKS],
+    full: &[[u32; 2]; MAX_LINKS],
+    first: &[u16; MAX_NODES],
+    next: &[u16; MAX_ARCS],
+    to: &[u8; MAX_ARCS],
+    table: &[u16; TABLE],
+    start: &[u64; HINTS],
     s: usize,
     t: usize,
+    out: &mut [i32],
 ) -> Cut
-    requires { ⌜ ((net : Network) × Ready net (arcs .first) (arcs .next) (arcs .to) s t × (now residual ≡ fullResidual net)) ⌝ }
-    ensures { λ r. ⌜ ((net : Network) → Ready net (arcs .first) (arcs .next) (arcs .to) s t → now (residual .entry) ≡ fullResidual net → Augmented net s t r (now (residual .exit))) ⌝ }
+    requires { ⌜ ((net : Network)
+        × Ready net (now first) (now next) (now to) s t
+        × (now full ≡ fullResidual net)
+        × (length (now out) ≤ net .links)) ⌝ }
+    ensures { λ r. ⌜ ((net : Network)
+        → Ready net (now (first .entry)) (now (next .entry)) (now (to .entry)) s t
+        → now (full .entry) ≡ fullResidual net
+        → Augmented net s t r (now (out .entry)) (now (out .exit))) ⌝ }
 {
-    let first = arcs.first;
-    let next = arcs.next;
-    let to = arcs.to;
-    let mut into = near;
-    let mut closer = [0u64; MAX_NODES];
+    let mut residual = *full;
+    let mut hints = *start;
     let mut total: u32 = 0;
     loop {
-        let level = sweep(&into, s, t, &mut closer);
-        let tree = search(&first, &next, &to, *residual, s, t, &closer, level);
+        total = total + send_all(to, table, &mut hints, &mut residual, s, t);
+        let tree = search(first, next, to, residual, s, t);
         if !contains(tree.reached, t) {
+            write_flow(full, &residual, out);
             return Cut {
                 side: tree.reached,
                 value: total,
             };
         }
-        total = total + push(tree, &mut into, residual);
+        let last = tree.count - 1;
+        let d = tree.bottleneck[last];
+        let left = push(tree, d, &mut hints, residual);
+        residual = left;
+        total = total + d;
     }
 }

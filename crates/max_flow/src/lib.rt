@@ -1,23 +1,28 @@
 // Minimum cuts and maximum flows between two nodes of a network (document 01, "Splits and flows" and "The tree").
-mod augment; // residual capacities, and flow sent along one path after another
-mod hints; // where a search is to look first
+mod augment; // flow sent until no search reaches the sink
+mod flows; // what each link carries
+mod residual; // residual capacities
 mod search; // the search for an augmenting path
+mod send; // flow sent in phases, along the hints
 
 use crate::augment::augment;
-use crate::augment::full_residual;
-pub use crate::hints::neighbours;
-use network::Incidence;
+pub use crate::residual::full_residual;
+use flow_hints::HINTS;
+use flow_hints::TABLE;
+use flow_hints::fill_table;
+use flow_hints::start_hints;
+use network::MAX_ARCS;
 use network::MAX_LINKS;
 use network::MAX_NODES;
 use network::Network;
 use network::incidence_of;
-ghost use lib.IntN.{pos, _-ℤ_};
 ghost use lib.ListN.{length};
 ghost use mathlib.Core.Path.{_≡_};
-ghost use Prim.Native.Nat.{_^_, _<_};
+ghost use Prim.Native.Nat.{_≤_};
+ghost use Rattle.max_flow.specs.Augment.{Augmented};
 ghost use Rattle.max_flow.specs.LargestFlow.{LargestFlow};
 ghost use Rattle.max_flow.specs.LeastCut.{Endpoints, leastCutOf};
-ghost use Rattle.max_flow.specs.LinkFlows.{Moderate, linkFlows};
+ghost use Rattle.max_flow.specs.Residuals.{fullResidual};
 ghost use Rattle.max_flow.specs.Search.{Ready};
 
 // A cut: one of its sides, and its value.
@@ -26,19 +31,43 @@ pub struct Cut {
     pub value: u32,
 }
 
-// The least minimum cut, for a caller that asks for many of one network: `arcs` and the hint `near` are made once.
+// The least minimum cut, for a caller that asks for many of one network: its full residual capacities, its arcs, the
+// table and the hints are made once. The network is named in the contract, and not handed over.
 pub fn least_cut_by(
-    net: Network,
-    arcs: Incidence,
-    near: [u64; MAX_NODES],
+    full: &[[u32; 2]; MAX_LINKS],
+    first: &[u16; MAX_NODES],
+    next: &[u16; MAX_ARCS],
+    to: &[u8; MAX_ARCS],
+    table: &[u16; TABLE],
+    start: &[u64; HINTS],
     s: usize,
     t: usize,
 ) -> Cut
-    requires { ⌜ Ready net (arcs .first) (arcs .next) (arcs .to) s t ⌝ }
-    ensures { λ r. ⌜ r ≡ leastCutOf net s t ⌝ }
+    requires { ⌜ ((net : Network) × Ready net (now first) (now next) (now to) s t × (now full ≡ fullResidual net)) ⌝ }
+    ensures { λ r. ⌜ ((net : Network)
+        → Ready net (now (first .entry)) (now (next .entry)) (now (to .entry)) s t
+        → now (full .entry) ≡ fullResidual net
+        → r ≡ leastCutOf net s t) ⌝ }
 {
-    let mut residual = full_residual(net);
-    augment(arcs, near, &mut residual, s, t)
+    let mut none = [0i32; 0];
+    augment(full, first, next, to, table, start, s, t, &mut none)
+}
+
+// The least minimum cut of (s, t), and a flow of its value: a number for each link, where `out` has that many places.
+// Which flow is left open.
+fn augment_net(net: Network, s: usize, t: usize, out: &mut [i32]) -> Cut
+    requires { ⌜ Endpoints net s t × (length (now out) ≤ net .links) ⌝ }
+    ensures { λ r. ⌜ Augmented net s t r (now (out .entry)) (now (out .exit)) ⌝ }
+{
+    let arcs = incidence_of(net);
+    let first = arcs.first;
+    let next = arcs.next;
+    let to = arcs.to;
+    let start = start_hints(net);
+    let mut table = [0u16; TABLE];
+    fill_table(net, &mut table);
+    let full = full_residual(net);
+    augment(&full, &first, &next, &to, &table, &start, s, t, out)
 }
 
 // The least minimum cut of (s, t) (document 01: the least side), with its value.
@@ -46,30 +75,8 @@ pub fn least_min_cut(net: Network, s: usize, t: usize) -> Cut
     requires { ⌜ Endpoints net s t ⌝ }
     ensures { λ r. ⌜ r ≡ leastCutOf net s t ⌝ }
 {
-    let arcs = incidence_of(net);
-    let near = neighbours(net);
-    least_cut_by(net, arcs, near, s, t)
-}
-
-// what a link of capacity c carries, positive from a to b, where `left` is left of it that way
-fn carried(c: u32, left: u32) -> i32
-    requires { ⌜ (c < 2 ^ 31) × (left < 2 ^ 31) ⌝ }
-    ensures { λ r. ⌜ r ≡ pos c -ℤ pos left ⌝ }
-{
-    c as i32 - left as i32
-}
-
-// What each link carries is written to its place.
-fn write_flow(capacity: [u32; MAX_LINKS], residual: [[u32; 2]; MAX_LINKS], out: &mut [i32])
-    requires { ⌜ Moderate capacity residual (length (now out)) ⌝ }
-    ensures { λ _. ⌜ now (out .exit) ≡ linkFlows capacity residual (now (out .entry)) ⌝ }
-{
-    let m = out.len();
-    for k in 0..m {
-        let c = capacity[k];
-        let left = residual[k][0];
-        out[k] = carried(c, left);
-    }
+    let mut none = [0i32; 0];
+    augment_net(net, s, t, &mut none)
 }
 
 // A lawful flow from s to t of the largest total, a number for each link. Which one is left open.
@@ -78,10 +85,5 @@ pub fn lawful_flow(net: Network, s: usize, t: usize, out: &mut [i32])
     requires { ⌜ length (now out) ≡ net .links ⌝ }
     ensures { λ _. ⌜ LargestFlow net s t (now (out .exit)) ⌝ }
 {
-    let arcs = incidence_of(net);
-    let near = neighbours(net);
-    let mut residual = full_residual(net);
-    let cut = augment(arcs, near, &mut residual, s, t);
-    let capacity = net.capacity;
-    write_flow(capacity, residual, out);
+    let cut = augment_net(net, s, t, out);
 }

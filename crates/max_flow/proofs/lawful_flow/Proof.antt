@@ -1,44 +1,16 @@
--- `lawful_flow` meets its contract: the residual capacities with which augmenting ends hold a flow of the largest total.
+-- `lawful_flow` meets its contract: the flow with which augmenting ends is of the largest total.
 use borrow.Author.Needs.{needs}
-use Rattle.max_flow.specs.LinkFlows.{moderate, largest}
 use Rattle.max_flow.proofs.lawful_flow.Statement.{statement}
 use Rattle.max_flow.proofs.lawful_flow.Tie as tie
 
-incidence-of-requires : tie.Need-incidence-of-requires
-incidence-of-requires c κs = search needs
-
-neighbours-requires : tie.Need-neighbours-requires
-neighbours-requires c κs = search needs
-
-full-residual-requires : tie.Need-full-residual-requires
-full-residual-requires c κs = search needs
-
-augment-requires : tie.Need-augment-requires
-augment-requires c κs = search needs
-
-write-flow-requires : tie.Need-write-flow-requires
-write-flow-requires c κs =
-    let st = c .before .before .before .before .before .before .before in
-    let end = c .before .before .augment .ensures (st .args .net) (record { ends = st .pre .0; chains = c .before .before .before .before .before .before .incidence-of .ensures }) (c .before .before .before .before .full-residual .ensures) .flowing in
-    rw (st .pre .1) (moderate (st .pre .0) end)
+augment-net-requires : tie.Need-augment-net-requires
+augment-net-requires c κs = search needs
 
 same-length : tie.Need-same-length
 same-length c = search needs
 
 returns : tie.Need-returns
-returns c =
-    let st = c .before .before .before .before .before .before .before .before .before in
-    let end = c .before .before .before .before .augment .ensures (st .args .net) (record { ends = st .pre .0; chains = c .before .before .before .before .before .before .before .before .incidence-of .ensures }) (c .before .before .before .before .before .before .full-residual .ensures) .flowing in
-    rw (c .before .write-flow .ensures) (largest (st .pre .0) end (st .args .out .now) (st .pre .1))
+returns c = c .before .augment-net .ensures .flow (c .before .before .before .pre .1)
 
 pub lawful-flow-spec : {M : Type 1} → statement M
-lawful-flow-spec =
-    tie.close
-    (tie.spec
-    incidence-of-requires
-    neighbours-requires
-    full-residual-requires
-    augment-requires
-    write-flow-requires
-    same-length
-    returns)
+lawful-flow-spec = tie.close (tie.spec augment-net-requires same-length returns)

@@ -1,77 +1,84 @@
 -- `search` meets its contract. Over the places: those before i are done. Over a node's arcs: those from e on are done.
--- Each turn reaches a node more, or ends a place; a chain of arcs falls.
-use mathlib.Core.Path.{_≡_, refl, sym, ap, subst, _∙_}
+-- Each turn over the places ends one; a chain of arcs falls.
+use mathlib.Core.Path.{_≡_, sym, ap, _∙_}
 use mathlib.Core.Bool.{false}
-use Prim.Native.Nat.{ℕ, _+_, _-_, _*_, _<_, _≤_}
+use Prim.Native.Nat.{ℕ, _-_, _<_}
 use native.Mathlib.Omega.{arith}
 use lib.Dec.{lit<}
-use borrow.Author.Needs.{needs, fits-under, scaled-fits}
+use borrow.Author.Needs.{fits-under, scaled-fits}
 use borrow.Author.Tests.{not-true, not-false}
 use Rattle.min_cut.specs.Word.{holds}
 use Rattle.network.specs.Basics.{at}
 use Rattle.network.specs.Limits.{maxNodes}
 use Rattle.network.specs.declared.Network.{Network}
 use Rattle.max_flow.specs.Search.{Ready, grownBy}
-use Rattle.max_flow.specs.Scan.{Going, Inner, Placed, Looking, Fresh, going-start, going-end, going-next, placed, past-falls}
-use Rattle.max_flow.specs.Scan.{inner-start, looking, next-full, next-held, next-new, jump-new, hit-new}
+use Rattle.max_flow.specs.Scan.{Outer, Inner, Placed, Looking, Fresh, outer-start, outer-end, outer-next, placed}
+use Rattle.max_flow.specs.Scan.{inner-start, looking, next-full, next-held, next-new, hit-new}
 use Rattle.max_flow.specs.Augment.{ends-lt}
 use Rattle.max_flow.specs.declared.search.SearchTree.{SearchTree}
 use Rattle.max_flow.proofs.search.search.Statement.{statement}
 use Rattle.max_flow.proofs.search.search.Tie as tie
 
 abbrev Inv-loop : tie.InvT-loop
-Inv-loop first next to s t closer level residual tree₀ i p₀ l₀ u e₀ tree p l e =
-    (p ≡ p₀) × (tree₀ .count ≤ tree .count) × ((net : Network) → Ready net first next to s t → Inner net residual s t tree i p u e)
+Inv-loop first next to s t residual tree₀ i u e₀ tree e = (net : Network) → Ready net first next to s t → Inner net residual s t tree i u e
 
 abbrev μ-loop : tie.MeasureT-loop
-μ-loop first next to s t closer level residual tree₀ i p₀ l₀ u e₀ tree p l e = e
+μ-loop first next to s t residual tree₀ i u e₀ tree e = e
 
 abbrev Inv-search : tie.InvT-search
-Inv-search first next to s t closer level residual tree₀ i₀ p₀ l₀ tree i p l =
-    (net : Network) → Ready net first next to s t → Going net residual s t tree i p
+Inv-search first next to s t residual tree₀ i₀ tree i = (net : Network) → Ready net first next to s t → Outer net residual s t tree i
 
 abbrev μ-search : tie.MeasureT-search
-μ-search first next to s t closer level residual tree₀ i₀ p₀ l₀ tree i p l =
-    maxNodes * (maxNodes - tree .count) + (2 * (maxNodes - i) + p)
+μ-search first next to s t residual tree₀ i₀ tree i = maxNodes - i
 
 -- what the code relies on at the place at hand, at the arc at hand, and where that arc leads to a new node
-at-place : (c : tie.In-search Inv-loop μ-loop Inv-search μ-search) → Placed (c .before .before .before .args .first .now) (c .before .search .tree) (c .before .search .i) (c .before .search .p)
+at-place : (c : tie.In-search Inv-loop μ-loop Inv-search μ-search)
+    → Placed (c .before .before .before .args .first .now) (c .before .search .tree) (c .before .search .i)
 at-place c =
     let st = c .before .before .before in
     placed (st .pre .1) (c .before .search .inv (st .pre .0) (st .pre .1)) (c .search-test .taken)
 
--- where the function starts, of a turn over the arcs
+-- of a turn over the arcs: where the function starts, and the place whose arcs they are
 abbrev start : tie.At-loop Inv-loop μ-loop Inv-search μ-search → tie.Start Inv-loop μ-loop Inv-search μ-search
 start c = c .before .before .before .before .before .before
 
+abbrev place : tie.At-loop Inv-loop μ-loop Inv-search μ-search → ℕ
+place c = c .before .before .before .before .search .i
+
 at-arc : (c : tie.In-loop Inv-loop μ-loop Inv-search μ-search)
-    → Looking (start (c .before) .args .next .now) (start (c .before) .args .to .now) (c .before .loop .tree) (c .before .before .before .before .before .search .i) (c .before .loop .p) (c .before .loop .e)
+    → (let l = c .before in Looking (start l .args .next .now) (start l .args .to .now) (l .loop .tree) (place l) (l .loop .e))
 at-arc c =
     let st = start (c .before) in
-    looking (st .pre .1) (c .before .loop .inv .2 (st .pre .0) (st .pre .1)) (c .loop-test .taken)
+    looking (st .pre .1) (c .before .loop .inv (st .pre .0) (st .pre .1)) (c .loop-test .taken)
 
 -- the turn over the arcs that a place lies in
-abbrev turn : tie.Then1 Inv-loop μ-loop Inv-search μ-search → tie.At-loop Inv-loop μ-loop Inv-search μ-search
-turn c = c .before .before .before .before .before
+abbrev turn : tie.Then1 Inv-loop μ-loop Inv-search μ-search → tie.In-loop Inv-loop μ-loop Inv-search μ-search
+turn c = c .before .before .before .before
 
-new-at : (c : tie.Then1 Inv-loop μ-loop Inv-search μ-search) → holds (turn c .loop .tree .reached) (at (start (turn c) .args .to .now) (turn c .loop .e - 1)) ≡ false
+new-at : (c : tie.Then1 Inv-loop μ-loop Inv-search μ-search)
+    → holds (turn c .before .loop .tree .reached) (at (start (turn c .before) .args .to .now) (turn c .before .loop .e - 1)) ≡ false
 new-at c = sym (c .before .contains .ensures) ∙ not-true _ (c .if1 .taken)
 
-free-lt : (c : tie.Then1 Inv-loop μ-loop Inv-search μ-search) → turn c .loop .tree .count < maxNodes
-free-lt c = at-arc (c .before .before .before .before) .free (new-at c)
+free-lt : (c : tie.Then1 Inv-loop μ-loop Inv-search μ-search) → turn c .before .loop .tree .count < maxNodes
+free-lt c = at-arc (turn c) .free (new-at c)
+
+-- where a new node was found, of the places in which it is entered
+abbrev entry : tie.After-add Inv-loop μ-loop Inv-search μ-search → tie.Then1 Inv-loop μ-loop Inv-search μ-search
+entry c = c .before .before .before
 
 abbrev branch : tie.After-lesser Inv-loop μ-loop Inv-search μ-search → tie.Then1 Inv-loop μ-loop Inv-search μ-search
-branch c = c .before .before .before .before .before
+branch c = entry (c .before .before)
 
 -- the tree as the code has made it, but for the word of what is reached
 abbrev grownTo : tie.After-lesser Inv-loop μ-loop Inv-search μ-search → ℕ → SearchTree
 grownTo c =
-    let l = turn (branch c) .loop in
-    grownBy (l .tree) (l .p) (l .e - 1) (at (start (turn (branch c)) .args .to .now) (l .e - 1)) (c .lesser .result)
+    let l = turn (branch c) .before in
+    grownBy (l .loop .tree) (place l) (l .loop .e - 1) (at (start l .args .to .now) (l .loop .e - 1)) (c .lesser .result)
 
 fresh : (c : tie.After-lesser Inv-loop μ-loop Inv-search μ-search)
-    → Fresh (start (turn (branch c)) .args .to .now) (start (turn (branch c)) .args .t4) (turn (branch c) .loop .tree) (turn (branch c) .loop .p) (turn (branch c) .loop .e)
-    (grownTo c (c .before .before .add .result))
+    → (let l = turn (branch c) .before in
+    let w = grownTo c (c .before .before .add .result) in
+    Fresh (start l .args .to .now) (start l .args .t4) (l .loop .tree) (place l) (l .loop .e) w)
 fresh c =
     record {
       amount = c .lesser .result;
@@ -85,7 +92,7 @@ seed-requires : tie.Need-seed-requires Inv-loop μ-loop Inv-search μ-search
 seed-requires c κs = ends-lt (c .pre .1 .ends) .0
 
 search-holds : tie.Need-search-holds Inv-loop μ-loop Inv-search μ-search
-search-holds c = λ net a. going-start a (c .before .args .t4) _ (c .seed .ensures)
+search-holds c = λ net a. outer-start a (c .before .args .t4) _ (c .seed .ensures)
 
 element-copy-out-u : tie.Need-element-copy-out-u Inv-loop μ-loop Inv-search μ-search
 element-copy-out-u c = at-place c .place
@@ -103,9 +110,7 @@ cast-e : tie.Need-cast-e Inv-loop μ-loop Inv-search μ-search
 cast-e c = omega (arith, at-place (c .before .before) .chain)
 
 loop-holds : tie.Need-loop-holds Inv-loop μ-loop Inv-search μ-search
-loop-holds c =
-    let o = c .before .before .before .search in
-    (refl, omega arith, λ net a. inner-start a (o .inv net a) (c .before .before .search-test .taken))
+loop-holds c = λ net a. inner-start a (c .before .before .before .search .inv net a) (c .before .before .search-test .taken)
 
 sub-j : tie.Need-sub-j Inv-loop μ-loop Inv-search μ-search
 sub-j c = omega arith
@@ -129,132 +134,103 @@ contains-requires : tie.Need-contains-requires Inv-loop μ-loop Inv-search μ-se
 contains-requires c κs = at-arc (c .before .before) .node
 
 mul-d : tie.Need-mul-d Inv-loop μ-loop Inv-search μ-search
-mul-d c = omega (arith, at-arc (c .before .before .before .before))
+mul-d c = omega (arith, at-arc (turn c))
 
 mul-d-2 : tie.Need-mul-d-2 Inv-loop μ-loop Inv-search μ-search
-mul-d-2 c = omega (arith, at-arc (c .before .before .before .before))
+mul-d-2 c = omega (arith, at-arc (turn c))
 
 index-1-d : tie.Need-index-1-d Inv-loop μ-loop Inv-search μ-search
-index-1-d c = omega (arith, at-arc (c .before .before .before .before))
+index-1-d c = omega (arith, at-arc (turn c))
 
 index-2-d : tie.Need-index-2-d Inv-loop μ-loop Inv-search μ-search
-index-2-d c = omega (arith, at-arc (c .before .before .before .before))
+index-2-d c = omega (arith, at-arc (turn c))
 
 add-requires : tie.Need-add-requires Inv-loop μ-loop Inv-search μ-search
-add-requires c κs = at-arc (c .before .before .before .before .before .before) .node
+add-requires c κs = at-arc (turn (c .before .before)) .node
 
 cast-tree : tie.Need-cast-tree Inv-loop μ-loop Inv-search μ-search
-cast-tree c = fits-under _ _ _ (at-arc (c .before .before .before .before .before .before .before) .node) tt
+cast-tree c = fits-under _ _ _ (at-arc (turn (entry c)) .node) tt
 
 element-write-tree : tie.Need-element-write-tree Inv-loop μ-loop Inv-search μ-search
-element-write-tree c = free-lt (c .before .before .before)
+element-write-tree c = free-lt (entry c)
 
 cast-tree-2 : tie.Need-cast-tree-2 Inv-loop μ-loop Inv-search μ-search
-cast-tree-2 c = fits-under _ _ _ (at-arc (c .before .before .before .before .before .before .before) .arc) tt
+cast-tree-2 c = fits-under _ _ _ (at-arc (turn (entry c)) .arc) tt
 
 mul-tree : tie.Need-mul-tree Inv-loop μ-loop Inv-search μ-search
-mul-tree c = scaled-fits _ _ _ (free-lt (c .before .before .before)) (lit< tt)
+mul-tree c = scaled-fits _ _ _ (free-lt (entry c)) (lit< tt)
 
 element-write-tree-2 : tie.Need-element-write-tree-2 Inv-loop μ-loop Inv-search μ-search
-element-write-tree-2 c = free-lt (c .before .before .before)
+element-write-tree-2 c = free-lt (entry c)
 
 cast-tree-3 : tie.Need-cast-tree-3 Inv-loop μ-loop Inv-search μ-search
-cast-tree-3 c = omega (arith, at-arc (c .before .before .before .before .before .before .before))
+cast-tree-3 c = omega (arith, at-arc (turn (entry c)))
 
 element-write-tree-3 : tie.Need-element-write-tree-3 Inv-loop μ-loop Inv-search μ-search
-element-write-tree-3 c = free-lt (c .before .before .before)
+element-write-tree-3 c = free-lt (entry c)
 
 mul-lesser : tie.Need-mul-lesser Inv-loop μ-loop Inv-search μ-search
-mul-lesser c = scaled-fits _ _ _ (at-arc (c .before .before .before .before .before .before .before) .place) (lit< tt)
+mul-lesser c = scaled-fits _ _ _ (at-arc (turn (entry c)) .place) (lit< tt)
 
 element-copy-out-lesser : tie.Need-element-copy-out-lesser Inv-loop μ-loop Inv-search μ-search
-element-copy-out-lesser c = at-arc (c .before .before .before .before .before .before .before) .place
+element-copy-out-lesser c = at-arc (turn (entry c)) .place
 
 lesser-requires : tie.Need-lesser-requires Inv-loop μ-loop Inv-search μ-search
 lesser-requires c κs = tt
 
 mul-tree-2 : tie.Need-mul-tree-2 Inv-loop μ-loop Inv-search μ-search
-mul-tree-2 c = scaled-fits _ _ _ (free-lt (c .before .before .before .before .before)) (lit< tt)
+mul-tree-2 c = scaled-fits _ _ _ (free-lt (branch c)) (lit< tt)
 
 element-write-tree-4 : tie.Need-element-write-tree-4 Inv-loop μ-loop Inv-search μ-search
-element-write-tree-4 c = free-lt (c .before .before .before .before .before)
+element-write-tree-4 c = free-lt (branch c)
 
 add-tree : tie.Need-add-tree Inv-loop μ-loop Inv-search μ-search
-add-tree c = omega (arith, free-lt (c .before .before .before .before .before))
-
-mul-contains : tie.Need-mul-contains Inv-loop μ-loop Inv-search μ-search
-mul-contains c = search needs
-
-element-copy-out-contains : tie.Need-element-copy-out-contains Inv-loop μ-loop Inv-search μ-search
-element-copy-out-contains c = search needs
-
-contains-requires-2 : tie.Need-contains-requires-2 Inv-loop μ-loop Inv-search μ-search
-contains-requires-2 c κs = at-arc (c .before .before .before .before .before .before .before .before .before .before .before) .node
-
-lower-requires : tie.Need-lower-requires Inv-loop μ-loop Inv-search μ-search
-lower-requires c κs = tt
-
-search-less : tie.Need-search-less Inv-loop μ-loop Inv-search μ-search
-search-less c =
-    let l = c .before .before .before .before .before .before .before .before .before .before .before .before .before .before .before .loop in
-    omega (arith, free-lt (c .before .before .before .before .before .before .before .before .before .before), l .inv .0, l .inv .1)
-
-search-again : tie.Need-search-again Inv-loop μ-loop Inv-search μ-search
-search-again c =
-    let l = c .before .before .before .before .before .before .before .before .before .before .before .before .before .before .before .loop in
-    λ net a. jump-new a (l .inv .2 net a) (c .before .before .before .before .before .before .before .before .before .before .before .before .before .before .loop-test .taken) (fresh (c .before .before .before .before .before)) (c .before .before .before .before .if3 .left)
+add-tree c = omega (arith, free-lt (branch c))
 
 loop-less : tie.Need-loop-less Inv-loop μ-loop Inv-search μ-search
-loop-less c = at-arc (c .before .before .before .before .before .before .before .before .before .before .before .before .before) .falls
+loop-less c = at-arc (turn (branch (c .before))) .falls
 
 loop-again : tie.Need-loop-again Inv-loop μ-loop Inv-search μ-search
 loop-again c =
-    let l = c .before .before .before .before .before .before .before .before .before .before .before .before .before .before .loop in
-    (l .inv .0, omega (arith, l .inv .1), λ net a. next-new a (l .inv .2 net a) (c .before .before .before .before .before .before .before .before .before .before .before .before .before .loop-test .taken) (fresh (c .before .before .before .before)) (c .before .before .before .if3 .left))
+    let l = turn (branch (c .before)) in
+    λ net a. next-new a (l .before .loop .inv net a) (l .loop-test .taken) (fresh (c .before)) (c .if3 .left)
 
 loop-less-2 : tie.Need-loop-less-2 Inv-loop μ-loop Inv-search μ-search
-loop-less-2 c = at-arc (c .before .before .before .before .before .before) .falls
+loop-less-2 c = at-arc (turn (c .before .before)) .falls
 
 loop-again-2 : tie.Need-loop-again-2 Inv-loop μ-loop Inv-search μ-search
 loop-again-2 c =
-    let l = c .before .before .before .before .before .before .before .loop in
-    (l .inv .0, l .inv .1, λ net a. next-full a (l .inv .2 net a) (c .before .before .before .before .before .before .loop-test .taken) (c .if2 .left))
+    let l = turn (c .before .before) in
+    λ net a. next-full a (l .before .loop .inv net a) (l .loop-test .taken) (c .if2 .left)
 
 loop-less-3 : tie.Need-loop-less-3 Inv-loop μ-loop Inv-search μ-search
 loop-less-3 c = at-arc (c .before .before .before .before) .falls
 
 loop-again-3 : tie.Need-loop-again-3 Inv-loop μ-loop Inv-search μ-search
 loop-again-3 c =
-    let l = c .before .before .before .before .before .loop in
-    (l .inv .0, l .inv .1, λ net a. next-held a (l .inv .2 net a) (c .before .before .before .before .loop-test .taken) (sym (c .before .contains .ensures) ∙ not-false _ (c .if1 .left)))
+    let l = c .before .before .before .before in
+    let held = sym (c .before .contains .ensures) ∙ not-false _ (c .if1 .left) in
+    λ net a. next-held a (l .before .loop .inv net a) (l .loop-test .taken) held
 
-past-requires : tie.Need-past-requires Inv-loop μ-loop Inv-search μ-search
-past-requires c κs = at-place (c .before .before .before .before) .done
+add-i : tie.Need-add-i Inv-loop μ-loop Inv-search μ-search
+add-i c = omega (arith, at-place (c .before .before .before .before) .place)
 
-search-less-2 : tie.Need-search-less-2 Inv-loop μ-loop Inv-search μ-search
-search-less-2 c =
-    let st = c .before .before .before .before .before .before .before .before in
-    let o = c .before .before .before .before .before .before .search in
-    let l = c .before .before .loop in
-    let falls = past-falls (o .i) (l .p) (l .inv .2 (st .pre .0) (st .pre .1) .ahead) (at-place (c .before .before .before .before .before) .done) in
-    omega (arith, falls, c .past .ensures, l .inv .0, l .inv .1)
+search-less : tie.Need-search-less Inv-loop μ-loop Inv-search μ-search
+search-less c = omega (arith, at-place (c .before .before .before .before) .place)
 
-search-again-2 : tie.Need-search-again-2 Inv-loop μ-loop Inv-search μ-search
-search-again-2 c =
-    let st = c .before .before .before .before .before .before .before .before in
-    let l = c .before .before .loop in
+search-again : tie.Need-search-again Inv-loop μ-loop Inv-search μ-search
+search-again c =
+    let l = c .before .loop in
     let z : l .e ≡ 0 = omega arith in
-    λ net a.
-    subst (λ (k : ℕ). Going net (st .args .t4) (st .args .s) (st .args .t) (l .tree) k k) (sym (c .past .ensures))
-    (going-next a (rw z at (l .inv .2 net a)))
+    λ net a. outer-next a (rw z at (l .inv net a))
 
 returns : tie.Need-returns Inv-loop μ-loop Inv-search μ-search
-returns c = λ net a. going-end a (c .before .search .inv net a) (c .search-test .left)
+returns c = λ net a. outer-end a (c .before .search .inv net a) (c .search-test .left)
 
 returns-2 : tie.Need-returns-2 Inv-loop μ-loop Inv-search μ-search
 returns-2 c =
-    let l = c .before .before .before .before .before .before .before .before .before .before .before .loop in
-    λ net a. hit-new a (l .inv .2 net a) (c .before .before .before .before .before .before .before .before .before .before .loop-test .taken) (fresh (c .before)) (c .if3 .taken)
+    let l = turn (branch (c .before)) in
+    λ net a. hit-new a (l .before .loop .inv net a) (l .loop-test .taken) (fresh (c .before)) (c .if3 .taken)
 
 pub search-spec : {M : Type 1} → statement M
 search-spec =
@@ -297,20 +273,14 @@ search-spec =
     mul-tree-2
     element-write-tree-4
     add-tree
-    mul-contains
-    element-copy-out-contains
-    contains-requires-2
-    lower-requires
-    search-less
-    search-again
     loop-less
     loop-again
     loop-less-2
     loop-again-2
     loop-less-3
     loop-again-3
-    past-requires
-    search-less-2
-    search-again-2
+    add-i
+    search-less
+    search-again
     returns
     returns-2)

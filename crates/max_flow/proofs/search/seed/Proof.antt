@@ -16,7 +16,8 @@ cast-node : tie.Need-cast-node
 cast-node c = search needs
 
 returns : tie.Need-returns
-returns c = ap (seedBy (c .before .before .args .s)) (c .add .ensures ∙ ap (λ x. added x (c .before .before .args .s)) (c .before .empty .ensures))
+returns c =
+    ap (seedBy (c .before .before .args .s)) (c .add .ensures ∙ ap (λ x. added x (c .before .before .args .s)) (c .before .empty .ensures))
 
 pub seed-spec : {M : Type 1} → statement M
 seed-spec = tie.close (tie.spec empty-requires add-requires cast-node returns)

@@ -1,0 +1,84 @@
+-- `fill_table` ends, and stays within the table.
+use borrow.Author.Needs.{needs}
+use Prim.Native.Nat.{_-_, _<_, _≤_}
+use native.Mathlib.Omega.{arith}
+use Rattle.network.specs.Basics.{at}
+use Rattle.network.specs.Limits.{maxNodes, maxLinks}
+use Rattle.network.specs.NetworkLaws.{link-places}
+use Rattle.flow_hints.proofs.fill_table.Statement.{statement}
+use Rattle.flow_hints.proofs.fill_table.Tie as tie
+
+abbrev Inv-loop : tie.InvT-loop
+Inv-loop table₀ net m k₀ table k = k ≤ m
+
+abbrev μ-loop : tie.MeasureT-loop
+μ-loop table₀ net m k₀ table k = m - k
+
+places : (c : tie.In-loop Inv-loop μ-loop)
+    → (c .before .loop .k < maxLinks)
+    × (at (c .before .before .args .t1 .a) (c .before .loop .k) < maxNodes)
+    × (at (c .before .before .args .t1 .b) (c .before .loop .k) < maxNodes)
+places c = link-places (c .before .before .args .t1) (c .before .before .pre) (c .before .loop .k) (c .loop-test .taken)
+
+loop-holds : tie.Need-loop-holds Inv-loop μ-loop
+loop-holds c = omega arith
+
+element-copy-out-u : tie.Need-element-copy-out-u Inv-loop μ-loop
+element-copy-out-u c = places c .0
+
+cast-u : tie.Need-cast-u Inv-loop μ-loop
+cast-u c = omega (arith, places (c .before))
+
+element-copy-out-v : tie.Need-element-copy-out-v Inv-loop μ-loop
+element-copy-out-v c = places (c .before) .0
+
+cast-v : tie.Need-cast-v Inv-loop μ-loop
+cast-v c = omega (arith, places (c .before .before))
+
+mul-put-arc : tie.Need-mul-put-arc Inv-loop μ-loop
+mul-put-arc c = omega (arith, places (c .before .before .before))
+
+put-arc-requires : tie.Need-put-arc-requires Inv-loop μ-loop
+put-arc-requires c κs = omega (arith, places (c .before .before .before))
+
+mul-put-arc-2 : tie.Need-mul-put-arc-2 Inv-loop μ-loop
+mul-put-arc-2 c = omega (arith, places (c .before .before .before .before .before))
+
+add-put-arc : tie.Need-add-put-arc Inv-loop μ-loop
+add-put-arc c = omega (arith, places (c .before .before .before .before .before))
+
+put-arc-requires-2 : tie.Need-put-arc-requires-2 Inv-loop μ-loop
+put-arc-requires-2 c κs = omega (arith, places (c .before .before .before .before .before))
+
+add-k : tie.Need-add-k Inv-loop μ-loop
+add-k c = omega (arith, places (c .before .before .before .before .before .before))
+
+loop-less : tie.Need-loop-less Inv-loop μ-loop
+loop-less c = omega arith
+
+loop-again : tie.Need-loop-again Inv-loop μ-loop
+loop-again c = omega arith
+
+returns : tie.Need-returns Inv-loop μ-loop
+returns c = search needs
+
+pub fill-table-spec : {M : Type 1} → statement M
+fill-table-spec =
+    tie.close
+    (tie.spec
+    Inv-loop
+    μ-loop
+    loop-holds
+    element-copy-out-u
+    cast-u
+    element-copy-out-v
+    cast-v
+    mul-put-arc
+    put-arc-requires
+    mul-put-arc-2
+    add-put-arc
+    put-arc-requires-2
+    add-k
+    loop-less
+    loop-again
+    returns)

@@ -1,0 +1,4 @@
+-- definitions
+pub mod Timing
+-- laws for the proofs of the code
+pub mod Laws
