@@ -2,7 +2,7 @@
 -- of the rule, and the
 -- keeping test on the numbers that the code hands about: a changed link and a recorded step, without the network and
 -- the arrays.
-use Prim.Native.Nat.{ℕ, _+_, _-_, _≤_, _<_}
+use Prim.Native.Nat.{ℕ, _-_, _≤_, _<_}
 use mathlib.Core.Path.{_≡_}
 use mathlib.Core.Bool.{Bool, true, false, _&&_}
 use mathlib.Core.List.{List}

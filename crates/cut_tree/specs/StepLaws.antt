@@ -74,7 +74,8 @@ pub moving-end : (p : List ℕ) (x s t : ℕ) (r : List ℕ) → x ≡ 0 → mov
 moving-end p x s t r e g = sym (moved-none s t 0 p) ∙ (rw e at g)
 
 -- ---- a node placed
-module _ (parent : List ℕ) (s t X : ℕ) (ps : List ℕ) (z : Bool) (e : ps ≡ moved X s t 0 parent) (h : z ≡ holds X (at parent t)) where
+module _ (parent : List ℕ) (s t X : ℕ) (ps : List ℕ) (z : Bool) (e : ps ≡ moved X s t 0 parent)
+    (h : z ≡ holds X (at parent t)) where
   pub parents-between : z ≡ true → set (set ps s (at parent t)) t s ≡ placedParents (holds X (at parent t)) parent s t X
   parents-between q = rw (e, ← h, q) refl
 
@@ -95,13 +96,14 @@ module _ (parent weight pivot side value : List ℕ) (count s t : ℕ) (x : Step
 
   pub stepped-by : (ps ws : List ℕ) → ps ≡ placedParents z parent s t (x .side)
       → ws ≡ placedWeights z weight s t (x .value)
-      → builtOf ps ws (set pivot s t) (set side s (x .side)) (set value s (x .value)) (count + x .anew) ≡ stepped
-      (builtOf parent weight pivot side value count) s t x
+      → builtOf ps ws (set pivot s t) (set side s (x .side)) (set value s (x .value)) (count + x .anew)
+      ≡ stepped (builtOf parent weight pivot side value count) s t x
   unfolding stepped
   stepped-by ps ws e f = rw (e, f) (go z)
     where
       go : (y : Bool)
-          → builtOf (placedParents y parent s t (x .side)) (placedWeights y weight s t (x .value)) (set pivot s t) (set side s (x .side)) (set value s (x .value)) (count + x .anew)
+          → builtOf (placedParents y parent s t (x .side)) (placedWeights y weight s t (x .value)) (set pivot s t)
+          (set side s (x .side)) (set value s (x .value)) (count + x .anew)
           ≡ record {
             tree = placed y (record { parent = parent; weight = weight }) s t (x .side) (x .value);
             steps = recorded (record { pivot = pivot; side = side; value = value }) s t (x .side) (x .value);

@@ -11,7 +11,7 @@ use lib.IntN.{ℤ}
 use lib.ListN.{length}
 use borrow.Author.Tests.{eq-eqb, ne-eqb}
 use Rattle.min_cut.specs.Word.{holds}
-use Rattle.min_cut.specs.Residual.{ResidualFlow, more, weak, full}
+use Rattle.min_cut.specs.Residual.{more, weak, full}
 use Rattle.min_cut.specs.Arcs.{reached-least, shut-closed}
 use Rattle.network.specs.Basics.{at}
 use Rattle.network.specs.Limits.{maxNodes, maxValue}
@@ -71,8 +71,11 @@ module _ {net : Network} {s t : ℕ} (a : Endpoints net s t) where
     -- t is reached
     pub grows : {r' : List (List ℕ)} → holds (w .reached) t ≡ true → Sent net s r w most r' → Growth net s t v most r'
     grows {r'} q p =
-        record
-        { flowing = larger; most = flow-le larger; some = o .tree .flows (w .count - 1) (omega (arith, o .tree .some)) }
+        record {
+          flowing = larger;
+          most = flow-le larger;
+          some = o .tree .flows (w .count - 1) (omega (arith, o .tree .some));
+        }
       where
         larger : Flowing net s t (v + most) r'
         larger =

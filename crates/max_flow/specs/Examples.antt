@@ -15,12 +15,15 @@ use Rattle.max_flow.specs.Residuals.{fullUpTo, fullResidual, rowAfter}
 use Rattle.max_flow.specs.LinkFlows.{linkFlowsUpTo, linkFlows}
 
 -- {1}, and not {1, 2, 3}, which costs the same; {2, 3}; {3}
-cuts : (leastCutOf resortA 1 0 ≡ record { side = 2; value = 8 }) × (leastCutOf resortA 2 0 ≡ record { side = 12; value = 6 }) × (leastCutOf resortA 3 2 ≡ record { side = 8; value = 6 })
+cuts : (leastCutOf resortA 1 0 ≡ record { side = 2; value = 8 })
+    × (leastCutOf resortA 2 0 ≡ record { side = 12; value = 6 })
+    × (leastCutOf resortA 3 2 ≡ record { side = 8; value = 6 })
 unfolding leastCutOf leastMinCut first cutValue sum holds
 cuts = (refl, refl, refl)
 
 -- at first each link may take its capacity each way; a place without a link, nothing
-full : take 6 (fullResidual resortA) ≡ (5 ∷ 5 ∷ []) ∷ (3 ∷ 3 ∷ []) ∷ (4 ∷ 4 ∷ []) ∷ (2 ∷ 2 ∷ []) ∷ (1 ∷ 1 ∷ []) ∷ (0 ∷ 0 ∷ []) ∷ []
+full : take 6 (fullResidual resortA)
+    ≡ (5 ∷ 5 ∷ []) ∷ (3 ∷ 3 ∷ []) ∷ (4 ∷ 4 ∷ []) ∷ (2 ∷ 2 ∷ []) ∷ (1 ∷ 1 ∷ []) ∷ (0 ∷ 0 ∷ []) ∷ []
 unfolding fullUpTo
 full = refl
 
@@ -29,6 +32,7 @@ rows : (rowAfter true 5 5 2 ≡ 3 ∷ 7 ∷ []) × (rowAfter false 5 5 2 ≡ 7 �
 rows = (refl, refl)
 
 -- a link with 3 left of 5 carries 2 from a to b; one with 7 left of 5 carries 2 back
-carried : linkFlows ((5 ∷ 5 ∷ []) ∷ (5 ∷ 5 ∷ []) ∷ []) ((3 ∷ 7 ∷ []) ∷ (7 ∷ 3 ∷ []) ∷ []) (pos 0 ∷ pos 0 ∷ []) ≡ pos 2 ∷ negℤ (pos 2) ∷ []
+carried : linkFlows ((5 ∷ 5 ∷ []) ∷ (5 ∷ 5 ∷ []) ∷ []) ((3 ∷ 7 ∷ []) ∷ (7 ∷ 3 ∷ []) ∷ []) (pos 0 ∷ pos 0 ∷ [])
+    ≡ pos 2 ∷ negℤ (pos 2) ∷ []
 unfolding linkFlowsUpTo
 carried = refl

@@ -4,7 +4,7 @@ use mathlib.Core.Path.{_≡_, refl, sym, ap, _∙_}
 use mathlib.Core.Logic.{_≢_}
 use mathlib.Core.Bool.{true}
 use mathlib.Core.List.{List}
-use Prim.Native.Nat.{ℕ, _+_, _-_, _*_, _/_, _<_, _≤_}
+use Prim.Native.Nat.{ℕ, _-_, _<_, _≤_}
 use native.Mathlib.Omega.{arith}
 use Rattle.min_cut.specs.Residual.{Pushed}
 use Rattle.min_cut.specs.Arcs.{tip}
@@ -33,7 +33,8 @@ pub record Sent (net : Network) (s : ℕ) (r : List (List ℕ)) (w : SearchTree)
 -- on the way, at place i: d is sent from there to the node reached last. What lies before has the room that the search
 -- found.
 pub record Half (net : Network) (r : List (List ℕ)) (w : SearchTree) (d i : ℕ) (r' : List (List ℕ)) : Type 0 where
-  pub pushed : Pushed (graph net) (at (w .node) i) (at (w .node) (w .count - 1)) d (ahead r) (back r) (ahead r') (back r')
+  pub pushed : Pushed (graph net) (at (w .node) i) (at (w .node) (w .count - 1)) d (ahead r) (back r)
+      (ahead r') (back r')
   pub balanced : Balanced net r'
   pub here : i < w .count
   pub enough : d ≤ at (w .bottleneck) i

@@ -1,4 +1,4 @@
--- Laws of the residual capacities: what the code reads, the start, and one arc along which more is sent.
+-- Laws of the residual capacities: the lesser of two, what the code reads, the start, one arc along which more is sent.
 use mathlib.Core.Path.{_≡_, refl, ap, _∙_}
 use mathlib.Core.Logic.{_≢_}
 use mathlib.Core.Bool.{Bool, true, false, cond}
@@ -8,7 +8,8 @@ use native.Mathlib.Omega.{arith}
 use native.Mathlib.Decide.{ℕ-discrete}
 use lib.ListN.{getD, set, length, length-set, length-replicate, getD-replicate}
 use lib.Seq.{getD-set-same, getD-set-other}
-use borrow.Author.Tests.{eqb-true, eqb-false}
+use lib.Dec.{leb}
+use borrow.Author.Tests.{eqb-true, eqb-false, leb-true, leb-false}
 use Rattle.min_cut.specs.Sum.{sum-ext}
 use Rattle.min_cut.specs.Residual.{residual, ResidualFlow, Pushed, At, start, push-ahead, push-back}
 use Rattle.min_cut.specs.Arcs.{tail, tip, room, forward}
@@ -17,7 +18,16 @@ use Rattle.network.specs.Limits.{maxLinks, maxArcs, maxCapacity}
 use Rattle.network.specs.Network.{networkFits, graph}
 use Rattle.network.specs.NetworkLaws.{links-le, capacity-le}
 use Rattle.network.specs.declared.Network.{Network}
-use Rattle.max_flow.specs.Residuals.{ahead, back, roomOn, rowAfter, sentAlong, fullUpTo, fullResidual, Balanced, Along}
+use Rattle.max_flow.specs.Residuals.{lesserOf, ahead, back, roomOn, rowAfter, sentAlong, fullUpTo, fullResidual}
+use Rattle.max_flow.specs.Residuals.{Balanced, Along}
+
+-- the lesser of two
+pub lesser-fits : (a b : ℕ) → (lesserOf a b ≤ a) × (lesserOf a b ≤ b) × (0 < a → 0 < b → 0 < lesserOf a b)
+lesser-fits a b = go (leb a b) refl
+  where
+    go : (c : Bool) → leb a b ≡ c → (cond c a b ≤ a) × (cond c a b ≤ b) × (0 < a → 0 < b → 0 < cond c a b)
+    go true e = (omega arith, leb-true a b e, λ p q. p)
+    go false e = (omega (arith, leb-false a b e), omega arith, λ p q. q)
 
 -- what the code reads
 pub room-read : (r : List (List ℕ)) (e : ℕ) → getD (getD r (e / 2) []) (e % 2) 0 ≡ roomOn r e
@@ -69,7 +79,8 @@ module _ (net : Network) where
   unfolding residual
   full-flow h s t X = omega (arith, start (graph net) s t X, same)
     where
-      same : residual (graph net) (ahead (fullResidual net)) (back (fullResidual net)) X ≡ residual (graph net) (graph net .c) (graph net .c) X
+      same : residual (graph net) (ahead (fullResidual net)) (back (fullResidual net)) X
+          ≡ residual (graph net) (graph net .c) (graph net .c) X
       same = sum-ext (net .links) _ _ (λ k l. rw (full-at (net .links) k l (links-le net h)))
 
 -- ---- d more is sent along arc e
@@ -109,7 +120,8 @@ module _ {net : Network} {r : List (List ℕ)} {e d : ℕ} (a : Along net r e d)
   back-false : d ≤ back r k → back (set r k (rowAfter false (ahead r k) (back r k) d)) k + d ≡ back r k
   back-false z = rw (same (rowAfter false (ahead r k) (back r k) d)) (omega arith)
 
-  pub along-pushed : Pushed (graph net) (tail (graph net) e) (tip (graph net) e) d (ahead r) (back r) (ahead (sentAlong r e d)) (back (sentAlong r e d))
+  pub along-pushed : Pushed (graph net) (tail (graph net) e) (tip (graph net) e) d (ahead r) (back r)
+      (ahead (sentAlong r e d)) (back (sentAlong r e d))
   unfolding tail tip room
   along-pushed = go (forward e) (a .room)
     where
@@ -162,6 +174,7 @@ module _ {net : Network} {r : List (List ℕ)} {e d : ℕ} (a : Along net r e d)
   pub arc-lt : e < maxArcs
   arc-lt = omega (arith, a .here, links-le net (a .fits))
 
-  pub along-fits : (d ≤ cond (forward e) (ahead r (e / 2)) (back r (e / 2))) × (ahead r (e / 2) + back r (e / 2) ≤ 2 * maxCapacity)
+  pub along-fits : (d ≤ cond (forward e) (ahead r (e / 2)) (back r (e / 2)))
+      × (ahead r (e / 2) + back r (e / 2) ≤ 2 * maxCapacity)
   unfolding room
   along-fits = (a .room, omega (arith, b .both k kl, capacity-le net (a .fits) k kl))

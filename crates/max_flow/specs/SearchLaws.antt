@@ -6,10 +6,8 @@ use mathlib.Core.List.{List}
 use Prim.Native.Nat.{ℕ, zero, suc, _+_, _-_, _*_, _/_, _<_, _≤_}
 use native.Mathlib.Omega.{arith}
 use native.Mathlib.Decide.{ℕ-discrete}
-use lib.Dec.{leb}
 use lib.ListN.{length, set, replicate, length-set, length-replicate, getD-replicate}
 use lib.Seq.{getD-set-same, getD-set-other}
-use borrow.Author.Tests.{leb-true, leb-false}
 use Rattle.min_cut.specs.Cut.{Side, _⊆_}
 use Rattle.min_cut.specs.Word.{holds}
 use Rattle.min_cut.specs.Arcs.{tail, tip, forward, Shut}
@@ -22,15 +20,9 @@ use Rattle.node_set.specs.Set.{empty, added}
 use Rattle.node_set.specs.SetLaws.{holds-empty, empty-lt, added-same, added-other, added-keeps, added-lt}
 use Rattle.node_set.specs.SizeLaws.{size-le, size-empty, size-added, member-lt}
 use Rattle.max_flow.specs.Residuals.{lesserOf, ahead, back, roomOn}
+use Rattle.max_flow.specs.ResidualLaws.{lesser-fits}
 use Rattle.max_flow.specs.Search.{seedOf, grown, Entered, TreeFrom}
 use Rattle.max_flow.specs.declared.search.SearchTree.{SearchTree}
-
-lesser-fits : (a b : ℕ) → 0 < a → 0 < b → (0 < lesserOf a b) × (lesserOf a b ≤ a) × (lesserOf a b ≤ b)
-lesser-fits a b p q = go (leb a b) refl
-  where
-    go : (c : Bool) → leb a b ≡ c → (0 < cond c a b) × (cond c a b ≤ a) × (cond c a b ≤ b)
-    go true e = (p, omega arith, leb-true a b e)
-    go false e = (q, omega (arith, leb-false a b e), omega arith)
 
 module _ {net : Network} {r : List (List ℕ)} {s : ℕ} {w : SearchTree} (f : TreeFrom net r s w) where
   few : w .count ≤ net .nodes
@@ -47,7 +39,13 @@ module _ {net : Network} {r : List (List ℕ)} {s : ℕ} {w : SearchTree} (f : T
 
   -- a node that is not reached yet finds a place
   pub free : (x : ℕ) → x < net .nodes → holds (w .reached) x ≡ false → w .count < net .nodes
-  free x l h = omega (arith, size-le (net .nodes) (added (w .reached) x), size-added (net .nodes) (w .reached) x l h, f .many)
+  free x l h =
+      omega (
+        arith,
+        size-le (net .nodes) (added (w .reached) x),
+        size-added (net .nodes) (w .reached) x l h,
+        f .many,
+      )
 
   -- every side that holds s, and that no arc with room leaves, holds what is reached: by induction along `from`
   pub contained : (Y : Side) → Shut (graph net) (ahead r) (back r) Y → Y s ≡ true → holds (w .reached) ⊆ Y
@@ -97,9 +95,11 @@ module _ (net : Network) (r : List (List ℕ)) (s : ℕ) (l : s < net .nodes) wh
       }
 
 -- ---- one node more: x, by arc e from place i, to which d can be sent
-module _ {net : Network} {r : List (List ℕ)} {s : ℕ} {w : SearchTree} (h : networkFits net ≡ true) (f : TreeFrom net r s w) (i e x d : ℕ)
-    (il : i < w .count) (el : e < 2 * net .links) (et : tail (graph net) e ≡ at (w .node) i) (ex : tip (graph net) e ≡ x) (xl : x < net .nodes)
-    (new : holds (w .reached) x ≡ false) (some-d : 0 < d) (fits-d : d ≤ roomOn r e) (falls-d : d ≤ at (w .bottleneck) i) where
+module _ {net : Network} {r : List (List ℕ)} {s : ℕ} {w : SearchTree} (h : networkFits net ≡ true)
+    (f : TreeFrom net r s w) (i e x d : ℕ) (il : i < w .count) (el : e < 2 * net .links)
+    (et : tail (graph net) e ≡ at (w .node) i) (ex : tip (graph net) e ≡ x) (xl : x < net .nodes)
+    (new : holds (w .reached) x ≡ false) (some-d : 0 < d) (fits-d : d ≤ roomOn r e)
+    (falls-d : d ≤ at (w .bottleneck) i) where
   abbrev w' : SearchTree
   w' = grown w i e x d
 
@@ -133,7 +133,8 @@ module _ {net : Network} {r : List (List ℕ)} {s : ℕ} {w : SearchTree} (h : n
 
   held' : (k : ℕ) → k < w .count + 1 → Dec (k ≡ w .count) → holds (w' .reached) (at (w' .node) k) ≡ true
   held' k l (yes q) = rw (q, node-new) (added-same (w .reached) x)
-  held' k l (no q) = rw (node-old k (omega arith)) (added-keeps (w .reached) x (at (w .node) k) (f .held k (omega arith)))
+  held' k l (no q) =
+      rw (node-old k (omega arith)) (added-keeps (w .reached) x (at (w .node) k) (f .held k (omega arith)))
 
   listed' : (y : ℕ) → holds (w' .reached) y ≡ true → Dec (y ≡ x) → (k : ℕ) × (k < w .count + 1) × (at (w' .node) k ≡ y)
   listed' y q (yes e) = (w .count, omega arith, node-new ∙ sym e)
@@ -145,7 +146,8 @@ module _ {net : Network} {r : List (List ℕ)} {s : ℕ} {w : SearchTree} (h : n
   differ' k j l m (yes q) z =
       let y : at (w .node) k ≡ x = sym (node-old k (omega arith)) ∙ z ∙ ap (at (w' .node)) q ∙ node-new in
       true≢false (sym (f .held k (omega arith)) ∙ ap (holds (w .reached)) y ∙ new)
-  differ' k j l m (no q) z = f .differ k j l (omega arith) (sym (node-old k (omega arith)) ∙ z ∙ node-old j (omega arith))
+  differ' k j l m (no q) z =
+      f .differ k j l (omega arith) (sym (node-old k (omega arith)) ∙ z ∙ node-old j (omega arith))
 
   entered-new : Entered net r w' (w .count)
   entered-new =
@@ -235,8 +237,10 @@ module _ {net : Network} {r : List (List ℕ)} {s : ℕ} {w : SearchTree} (f : T
       }
 
   -- it leads to x, which is new
-  pub visited-new : networkFits net ≡ true → (i : ℕ) → i < w .count → e < 2 * net .links → tail (graph net) e ≡ at (w .node) i → (x d : ℕ) → x ≡ tip (graph net) e
-      → d ≡ lesserOf (roomOn r e) (at (w .bottleneck) i) → 0 < roomOn r e → holds (w .reached) x ≡ false → Visited net r s w e (grown w i e x d)
+  pub visited-new : networkFits net ≡ true → (i : ℕ) → i < w .count → e < 2 * net .links
+      → tail (graph net) e ≡ at (w .node) i → (x d : ℕ) → x ≡ tip (graph net) e
+      → d ≡ lesserOf (roomOn r e) (at (w .bottleneck) i) → 0 < roomOn r e → holds (w .reached) x ≡ false
+      → Visited net r s w e (grown w i e x d)
   visited-new h i il el et x d ex ed p new =
       record {
         tree = given .0;
@@ -249,12 +253,16 @@ module _ {net : Network} {r : List (List ℕ)} {s : ℕ} {w : SearchTree} (f : T
     where
       given : TreeFrom net r s (grown w i e x d) × (at (set (w .node) (w .count) x) (w .count + 1 - 1) ≡ x)
       given =
-          let q = lesser-fits (roomOn r e) (at (w .bottleneck) i) p (f .flows i il) in
-          let xl : x < net .nodes = omega (arith, ex, tip-lt net h e el) in (
-            grown-tree h f i e x d il el et (sym ex) xl new (omega (arith, q .0, ed)) (omega (arith, q .1, ed)) (omega (arith, q .2, ed)),
-            last-new h f i e x d il el et (sym ex) xl new (omega (arith, q .0, ed)) (omega (arith, q .1, ed)) (omega (arith, q .2, ed)),
+          let q = lesser-fits (roomOn r e) (at (w .bottleneck) i) in
+          let xl : x < net .nodes = omega (arith, ex, tip-lt net h e el) in
+          let some : 0 < d = omega (arith, q .2 p (f .flows i il), ed) in
+          let fits : d ≤ roomOn r e = omega (arith, q .0, ed) in
+          let falls : d ≤ at (w .bottleneck) i = omega (arith, q .1, ed) in (
+            grown-tree h f i e x d il el et (sym ex) xl new some fits falls,
+            last-new h f i e x d il el et (sym ex) xl new some fits falls,
           )
 
-      go : (y : ℕ) → holds (added (w .reached) x) y ≡ true → holds (w .reached) y ≡ false → Dec (y ≡ x) → at (set (w .node) (w .count) x) (w .count + 1 - 1) ≡ y
+      go : (y : ℕ) → holds (added (w .reached) x) y ≡ true → holds (w .reached) y ≡ false → Dec (y ≡ x)
+          → at (set (w .node) (w .count) x) (w .count + 1 - 1) ≡ y
       go y q o (yes z) = given .1 ∙ sym z
       go y q o (no z) = absurd (true≢false (sym q ∙ added-other (w .reached) x y z ∙ o))

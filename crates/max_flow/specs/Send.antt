@@ -20,7 +20,7 @@ use Rattle.network.specs.declared.Network.{Network}
 use Rattle.node_set.specs.Set.{added}
 use Rattle.node_set.specs.SetLaws.{added-same, added-keeps}
 use Rattle.max_flow.specs.Residuals.{lesserOf, ahead, back, roomOn, sentAlong, Balanced, Along, Flowing}
-use Rattle.max_flow.specs.ResidualLaws.{along-pushed, along-balanced, along-other}
+use Rattle.max_flow.specs.ResidualLaws.{lesser-fits, along-pushed, along-balanced, along-other}
 use Rattle.max_flow.specs.Search.{Ready}
 
 -- the arc back
@@ -67,7 +67,8 @@ unfolding tip tail
 back-tip G j = go (ℕ-discrete (j % 2) 0)
   where
     go : Dec (j % 2 ≡ 0)
-        → cond (forward (otherWay j)) (G .b (otherWay j / 2)) (G .a (otherWay j / 2)) ≡ cond (forward j) (G .a (j / 2)) (G .b (j / 2))
+        → cond (forward (otherWay j)) (G .b (otherWay j / 2)) (G .a (otherWay j / 2))
+        ≡ cond (forward j) (G .a (j / 2)) (G .b (j / 2))
     go (yes q) =
         let h : otherWay j / 2 ≡ j / 2 = omega arith in
         let o : otherWay j % 2 ≢ 0 = λ z. omega arith in
@@ -108,13 +109,6 @@ pub consistent-next : {net : Network} {to : List ℕ} {t on u limit d : ℕ} {r 
     → Sends net t on u limit d r r' → Consistent net to r'
 consistent-next a o = record { fits = a .fits; leads = a .leads; balanced = o .balanced }
 
-lesser-le : (a b : ℕ) → (lesserOf a b ≤ a) × (lesserOf a b ≤ b)
-lesser-le a b = go (leb a b) refl
-  where
-    go : (c : Bool) → leb a b ≡ c → (cond c a b ≤ a) × (cond c a b ≤ b)
-    go true e = (omega arith, leb-true a b e)
-    go false e = (omega (arith, leb-false a b e), omega arith)
-
 -- ---- what is sent
 -- at t itself
 pub send-there : {net : Network} {t on limit : ℕ} {r : List (List ℕ)} → Balanced net r
@@ -148,11 +142,14 @@ module _ {net : Network} {t on u : ℕ} where
   module _ {x j room want d on' : ℕ} {r r1 : List (List ℕ)} (limit : ℕ) (f : networkFits net ≡ true)
       (y : 0 < room → Way net r on u x j room) (e : want ≡ lesserOf room limit) (p : want ≢ 0) (q : on' ≡ added on x)
       (a : Sends net t on' x want d r r1) where
+    lesser : (lesserOf room limit ≤ room) × (lesserOf room limit ≤ limit)
+    lesser = (lesser-fits room limit .0, lesser-fits room limit .1)
+
     w : Way net r on u x j room
-    w = y (omega (arith, lesser-le room limit, e, p))
+    w = y (omega (arith, lesser .0, e, p))
 
     dl : d ≤ roomOn r1 j
-    dl = omega (arith, a .within, e, lesser-le room limit, w .fits, a .kept j (rw (q, w .leads) (added-same on x)))
+    dl = omega (arith, a .within, e, lesser .0, w .fits, a .kept j (rw (q, w .leads) (added-same on x)))
 
     pub send-along : Along net r1 j d
     send-along = record { fits = f; balanced = a .balanced; here = w .here; room = dl }
@@ -166,7 +163,7 @@ module _ {net : Network} {t on u : ℕ} where
     pub send-way : Sends net t on u limit d r (sentAlong r1 j d)
     send-way =
         record {
-          within = omega (arith, a .within, e, lesser-le room limit);
+          within = omega (arith, a .within, e, lesser .1);
           balanced = along-balanced send-along;
           pushed = λ X. omega (arith, a .pushed X, one X);
           kept = λ i h.

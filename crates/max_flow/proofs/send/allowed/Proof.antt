@@ -3,15 +3,10 @@ use mathlib.Core.Path.{sym, ap, _∙_}
 use native.Mathlib.Omega.{arith}
 use Rattle.network.specs.Basics.{at}
 use Rattle.max_flow.specs.ResidualLaws.{room-read}
-use Rattle.max_flow.specs.Send.{otherWay, other-lt, way}
+use Rattle.max_flow.specs.Send.{other-lt, way}
 use borrow.Author.Needs.{needs}
 use Rattle.max_flow.proofs.send.allowed.Statement.{statement}
 use Rattle.max_flow.proofs.send.allowed.Tie as tie
-use Rattle.max_flow.proofs.send.allowed.Reads as reads
-use Rattle.max_flow.proofs.send.allowed.Lts as lts
-use Rattle.max_flow.proofs.send.other_way.Reads as other-way-reads
-use Rattle.max_flow.proofs.send.wide.Reads as wide-reads
-use Rattle.node_set.proofs.contains.Reads as contains-reads
 
 element-copy-out-wide : tie.Need-element-copy-out-wide
 element-copy-out-wide c = search needs
