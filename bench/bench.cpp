@@ -1,5 +1,7 @@
-// Prints tables of the library's times, beside those of LEMON, igraph and a C++ twin: see docs/BENCHMARKS.md.
+// Prints tables of the library's times, beside those of LEMON, igraph and a C++ twin, and of the memory that it takes:
+// see docs/BENCHMARKS.md.
 #include "beyond.h"
+#include "memory.h"
 #include "timed.h"
 
 // ---- the table of times
@@ -32,9 +34,7 @@ static void rows(const Timed &set)
         tree_row(set, "the 63 cuts alone", set.cuts());
         tree_row(set, "the 63 cuts alone, C++ twin", set.each(TWIN));
     }
-    const char *names[] = {"change", "change or undo, in turn", "pair", "headroom", "flow"};
-    for (int i = CHANGE; i <= FLOW; i++)
-        if (set.calls[i]) call_row(set, names[i - CHANGE], set.call((Work)i));
+    for (size_t i = 0; i < set.calls.size(); i++) call_row(set, kinds[i].name, set.call(i));
 }
 
 // ---- the table of counts
@@ -54,17 +54,14 @@ static void tables(bool check_only)
 {
     Timed full("dense, 256 links", several(20, dense, 64, 256));
     Timed thin("sparse, 93 links", several(10, sparse, 64, 30));
-    for (auto set : {&full, &thin}) {
-        set->add_cuts();
-        set->add_calls(CHANGE, changes), set->add_calls(UNDO, changes_undone);
-        set->add_calls(PAIR, pairs), set->add_calls(HEADROOM, headrooms), set->add_calls(FLOW, flows);
-    }
     Timed eight("8 nodes, 256 links", several(10, dense, 8, 256));
     Timed four("4 nodes, 256 links", several(10, dense, 4, 256));
     Timed two("2 nodes, 256 links", several(10, dense, 2, 256));
     printf("%s\n", check_twin({full.nets, thin.nets, eight.nets, four.nets, two.nets}).c_str());
     if (check_only) return;
+    for (auto set : {&full, &thin}) set->add_cuts(), set->add_calls();
     std::vector<Net> many(200, longest_refused());
+    if (open_all(many) != many.size() * PAMZOLIT_BYTES_FOLLOW) fail("the file to be read is not refused at its end");
     Meter reading{[&many] { return open_all(many); }};
     best_of_three({full.group(), thin.group(), eight.group(), four.group(), two.group(), {&reading}});
     printf("\n| | us | LEMON's tree, us | ratio | igraph's tree, us | ratio |\n");
@@ -74,6 +71,7 @@ static void tables(bool check_only)
     printf("\n| per cut | cuts | searches | of these found a way | sweeps | nodes swept |\n");
     printf("|---|---|---|---|---|---|\n");
     for (auto set : {&full, &thin, &eight, &four, &two}) count_row(*set);
+    memory();
 }
 
 // lines of nodes, links and microseconds of an opening, for the picture
@@ -96,5 +94,6 @@ int main(int argc, char **argv)
     std::string what = argc > 1 ? argv[1] : "";
     if (what == "growth") growth();
     else if (what == "beyond") beyond();
+    else if (what == "memory") memory();
     else tables(what == "check");
 }

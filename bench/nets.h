@@ -7,7 +7,8 @@
 struct Link { int a, b; uint32_t c; };
 struct Net { int n; std::vector<Link> links; std::vector<uint8_t> file; };
 
-inline uint64_t seed = 20250101;
+constexpr uint64_t FIRST_SEED = 20250101;
+inline uint64_t seed = FIRST_SEED;
 
 // a number below `below`, the next of the seed's
 inline uint32_t draw(uint32_t below)
@@ -51,6 +52,14 @@ inline Net sparse(int n, int more)
     std::vector<Link> links;
     for (int v = 1; v < n; v++) links.push_back({(int)draw(v), v, 1 + draw(1000)});
     for (int k = 0; k < more; k++) links.push_back(between(n));
+    return finish(n, links);
+}
+
+// from node 0 by all the others to node 1: no way can be longer
+inline Net line(int n)
+{
+    std::vector<Link> links;
+    for (int v = 2; v <= n; v++) links.push_back({v > 2 ? v - 1 : 0, v < n ? v : 1, 1 + draw(1000)});
     return finish(n, links);
 }
 

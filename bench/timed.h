@@ -6,13 +6,12 @@
 
 extern "C" uint32_t pamzolit_timing(const uint8_t *file, size_t file_length, uint32_t rounds);
 
-// ---- the library
+// ---- work on files
 inline uint64_t open_all(const std::vector<Net> &nets)
 {
-    int64_t reply[2];
-    uint32_t none = 0;
+    Plan plan;
     uint64_t sum = 0;
-    for (auto &net : nets) sum += pamzolit_replay(net.file.data(), net.file.size(), &none, 0, reply, 2);
+    for (auto &net : nets) sum += call::open(plan, net);
     return sum;
 }
 
@@ -24,61 +23,63 @@ inline uint64_t work_out_all(const std::vector<Net> &nets, uint32_t rounds)
     return sum;
 }
 
-using Calls = std::vector<uint32_t>;
+// ---- calls on held plans
+// On each plan `made` is used `count` times, which is `calls` calls each time, answered by `number`. Before the time is
+// taken the plan is opened, the arguments are drawn, and `first`, if there is one, is made with them.
+struct Kind {
+    const char *name;
+    Call *made;
+    int calls, count;
+    Drawer *args;
+    uint32_t number = PAMZOLIT_ACCEPTED;
+    Call *first = nullptr;
+};
 
-inline uint64_t replay_all(const std::vector<Net> &nets, const std::vector<Calls> &lists)
+// 50 changes of a plan: 64 can be undone
+const Kind kinds[] = {
+    {"change", call::change, 1, 50, new_capacity},
+    {"undo", call::undo, 1, 50, new_capacity, PAMZOLIT_ACCEPTED, call::change},
+    {"change or undo, in turn", call::change_and_undo, 2, 50, new_capacity},
+    {"pair", call::pair, 1, 500, ends},
+    {"headroom", call::headroom, 1, 500, ends},
+    {"flow", call::flow, 1, 500, ends},
+    {"write", call::write, 1, 500, nothing},
+    {"change, refused with 10", call::change, 1, 500, no_such_link, PAMZOLIT_NO_SUCH_LINK},
+};
+
+struct Held { Plan plan; std::vector<Args> list; };
+
+// Each plan is copied first, so that every round finds it as it was. The copy is timed too: about 0.04 us, for 50 calls
+// or more.
+inline uint64_t call_all(const std::vector<Held> &held, const Kind &kind)
 {
-    static std::vector<int64_t> out(2 + 257 * 4096);
-    uint64_t sum = 0;
-    for (size_t i = 0; i < nets.size(); i++) {
-        auto &file = nets[i].file;
-        sum += pamzolit_replay(file.data(), file.size(), lists[i].data(), lists[i].size(), out.data(), out.size());
+    uint64_t others = 0;
+    for (auto &h : held) {
+        Plan plan = h.plan;
+        others += make_calls(plan, kind.made, h.list, kind.number);
     }
-    return sum;
+    return others;
 }
 
-// ---- lists of calls
-inline Calls changes(const Net &net)
+inline std::vector<Held> held_for(const std::vector<Net> &nets, const Kind &kind)
 {
-    Calls list;
-    for (int i = 0; i < 50; i++)
-        list.insert(list.end(), {PAMZOLIT_CHANGE, draw(net.links.size()), 1 + draw(1000), 0});
-    return list;
-}
-
-inline Calls changes_undone(const Net &net)
-{
-    Calls list;
-    for (int i = 0; i < 50; i++) {
-        list.insert(list.end(), {PAMZOLIT_CHANGE, draw(net.links.size()), 1 + draw(1000), 0});
-        list.insert(list.end(), {PAMZOLIT_UNDO, 0, 0, 0});
+    std::vector<Held> held;
+    for (auto &net : nets) {
+        held.push_back({opened(net), drawn(net, kind.count, kind.args)});
+        if (kind.first) make_calls(held.back().plan, kind.first, held.back().list, PAMZOLIT_ACCEPTED);
     }
-    return list;
+    return held;
 }
-
-inline Calls asked(const Net &net, uint32_t kind, uint32_t third)
-{
-    Calls list;
-    for (int i = 0; i < 500; i++) {
-        auto [s, t] = ends(net);
-        list.insert(list.end(), {kind, s, t, third});
-    }
-    return list;
-}
-
-inline Calls pairs(const Net &net) { return asked(net, PAMZOLIT_PAIR, 0); }
-inline Calls headrooms(const Net &net) { return asked(net, PAMZOLIT_HEADROOM, 500); }
-inline Calls flows(const Net &net) { return asked(net, PAMZOLIT_FLOW, net.links.size()); }
 
 // ---- a set of networks
-enum Work { OPENING, LEMON, IGRAPH, READ_AND_CUT, READ, TWIN, CHANGE, UNDO, PAIR, HEADROOM, FLOW, WORKS };
+enum Work { OPENING, LEMON, IGRAPH, READ_AND_CUT, READ, TWIN, WORKS };
 
 struct Timed {
     const char *name;
     std::vector<Net> nets;
     std::vector<Twin64::Network> networks;
     Meter meters[WORKS];
-    size_t calls[WORKS] = {};
+    std::vector<Meter> calls; // one for each kind, or none
 
     Timed(const char *name, std::vector<Net> given) : name(name), nets(std::move(given))
     {
@@ -105,22 +106,25 @@ struct Timed {
         };
     }
 
-    void add_calls(Work what, Calls list(const Net &))
+    void add_calls()
     {
-        std::vector<Calls> lists;
-        for (auto &net : nets) lists.push_back(list(net)), calls[what] += lists.back().size() / 4;
-        meters[what].work = [this, lists] { return replay_all(nets, lists); };
+        for (auto &kind : kinds) {
+            auto held = held_for(nets, kind);
+            if (call_all(held, kind)) fail(std::string("another answer than is to be timed: ") + kind.name);
+            calls.push_back({[held, &kind] { return call_all(held, kind); }});
+        }
     }
 
     std::vector<Meter *> group()
     {
         std::vector<Meter *> all;
         for (auto &meter : meters) all.push_back(&meter);
+        for (auto &meter : calls) all.push_back(&meter);
         return all;
     }
 
-    // microseconds: of a network; of a call, which is what it takes beside the opening; of the cuts, beside the reading
+    // microseconds: of a network; of the cuts, beside the reading; of a call
     double each(Work what) const { return meters[what].best / nets.size(); }
-    double call(Work what) const { return (meters[what].best - meters[OPENING].best) / calls[what]; }
     double cuts() const { return each(READ_AND_CUT) - each(READ); }
+    double call(size_t i) const { return calls[i].best / (nets.size() * kinds[i].count * kinds[i].calls); }
 };

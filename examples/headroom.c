@@ -1,4 +1,5 @@
-/* Prints a headroom, as the gate shows it: the limit between two nodes of resort A less the booked traffic. */
+/* Prints headrooms, as the gate shows them: the limit between two nodes of resort A less the booked traffic. The plan
+ * is opened once, and then asked as often as there is a demand. */
 #include "../include/pamzolit.h"
 #include <stdio.h>
 
@@ -7,15 +8,17 @@ int main(void)
     static const uint8_t resort_a[] = {4, 5, 0, 1, 5, 1, 2, 3, 2, 3, 4, 0, 3, 2, 0, 2, 1};
     static const uint8_t damaged[] = {4, 5, 0, 1};
     static const uint32_t demands[] = {0, 6, 11, 106, 1000000001};
-    int64_t reply[15];
+    struct pamzolit_plan plan;
+    struct pamzolit_headroom_reply left;
+    size_t place;
+    if (pamzolit_open(resort_a, sizeof resort_a, &plan, &place) != PAMZOLIT_ACCEPTED)
+        return 1;
     for (size_t i = 0; i < sizeof demands / sizeof demands[0]; i++) {
-        pamzolit_headroom(resort_a, sizeof resort_a, 1, 3, demands[i], reply, 15);
-        printf("demand %10u: [", (unsigned)demands[i]);
-        for (int k = 3; k < 15; k++)
-            putchar((int)reply[k]);
-        printf("] %lld tenths, number %lld\n", (long long)reply[2], (long long)reply[0]);
+        uint32_t number = pamzolit_headroom(&plan, 1, 3, demands[i], &left);
+        printf("demand %10u: [%.12s] %d tenths, number %u\n", (unsigned)demands[i], (const char *)left.text,
+               (int)left.value, (unsigned)number);
     }
-    pamzolit_headroom(damaged, sizeof damaged, 1, 3, 0, reply, 15);
-    printf("damaged file: refused %lld %lld\n", (long long)reply[0], (long long)reply[1]);
+    uint32_t number = pamzolit_open(damaged, sizeof damaged, &plan, &place);
+    printf("damaged file: refused %u %zu\n", (unsigned)number, place);
     return 0;
 }

@@ -1,27 +1,35 @@
 /* The link plan: how much traffic can run between any two nodes of a network, and which links set that limit.
  *
- * The functions stand in the archive libexports.a, which is written in Rattle and proved: `rt staticlib exports` proves and writes it. Each
- * function takes every input; a bad one gets a number and never undefined behaviour, as long as each pointer is valid for its length
- * (a pointer of length 0 may be any that is not NULL). The functions keep no state.
+ * The functions stand in the archive libexports.a, which is written in Rattle and proved: `rt staticlib exports`
+ * proves and writes it. They keep no state and allocate nothing. A plan lives in its caller's memory and is lent to
+ * each call:
  *
- * Refusal numbers of a file, with their place (the offset of the faulty number's first byte, or of the first extra byte):
- *    1  the file ends before a number's last byte       6  an end of a link is no node
- *    2  a number's third byte has the top bit set       7  a link's ends are equal
- *    3  a number's last group of several is zero        8  a capacity is above 1,000,000
- *    4  n is not 1 to 64                                9  bytes follow the last link
- *    5  m is above 256
- * Refusal numbers of a call:
- *   10  no such link                                   15  s equals t
- *   11  capacity above 1,000,000                       16  the flow's buffer has not m numbers
- *   12  64 changes are stacked                         17  demand above 1,000,000,000
- *   13  nothing to undo                                18  the buffer is shorter than the file
- *   14  s or t is no node                              19  the plan is not sound (never from here)
- * Refusal numbers of a replay:
- *  100  the calls are not whole groups of four numbers
- *  101  more than 4,096 calls
- *  102  unknown kind of call; the place is the call's index
- *  103  too few places for the replies
- *  104  a buffer of over 512 numbers (flow) or 2,048 bytes (write); the place is the call's index
+ *     struct pamzolit_plan plan;
+ *     struct pamzolit_headroom_reply left;
+ *     size_t place;
+ *     if (pamzolit_open(file, file_length, &plan, &place) != PAMZOLIT_ACCEPTED) ...
+ *     if (pamzolit_headroom(&plan, s, t, demand, &left) != PAMZOLIT_ACCEPTED) ...
+ *
+ * What is promised. Each function but the listing returns a refusal number, 0 for none. What it is said below to store
+ * it stores whether it refuses or not, and nothing else is written. A refused change or undo leaves the plan as it
+ * was, and the calls that only ask leave it always. This holds of every content of the plan's memory and of every
+ * other argument. A plan that is not sound is refused with 19 by every call.
+ *
+ * 19 tests shape, not truth: numbers within their limits, parents that lead to node 0, unused places that are 0.
+ * Whoever edits a plan so that it keeps this shape gets answers from what the plan then holds. That answers are right,
+ * limits exact and changes undone as they were made is proved of plans that come from pamzolit_open, pamzolit_change
+ * and pamzolit_undo, nothing else writing them.
+ *
+ * What the caller owes:
+ *   - no pointer is NULL; each is aligned for its type and valid for what it points to, with its length where it has
+ *     one (of length 0 it may point anywhere but to NULL);
+ *   - what a call writes does not overlap anything else that is handed to it;
+ *   - nothing else writes what a call reads while it lasts, nor reads what it writes. A plan that is only asked (pair,
+ *     headroom, flow, write) may be shared among threads;
+ *   - size_t has 64 bits: the assertions at the end test it, and the layout.
+ *
+ * Capacities, weights, demands and flows are tenths of a megabit per second. A set of nodes is a word, bit i for node
+ * i. A call took at most 51 KB of stack where it was measured (`bench/run memory`); that is not proved.
  */
 #ifndef PAMZOLIT_H
 #define PAMZOLIT_H
@@ -33,32 +41,195 @@
 extern "C" {
 #endif
 
-/* The length that pamzolit_listing asks of its buffer. */
-#define PAMZOLIT_LISTING_MAX 183040
+/* ---- limits */
+#define PAMZOLIT_NODES 64         /* nodes of a network, at most */
+#define PAMZOLIT_LINKS 256        /* links of a network, at most */
+#define PAMZOLIT_CHANGES 64       /* changes that can be undone, at most */
+#define PAMZOLIT_FILE_MAX 1283    /* bytes of the longest file */
+#define PAMZOLIT_LISTING_MAX 183040 /* the length that pamzolit_listing asks of its buffer */
 
-/* The kinds of calls of a replay. */
-#define PAMZOLIT_CHANGE 1   /* link, capacity, 0      replies: number, steps not kept */
-#define PAMZOLIT_UNDO 2     /* 0, 0, 0                replies: number, steps not kept */
-#define PAMZOLIT_PAIR 3     /* s, t, 0                replies: number, weight, node, side's low and high 32 bits, side's size */
-#define PAMZOLIT_FLOW 4     /* s, t, buffer length    replies: number, then the buffer (zeros before the call) */
-#define PAMZOLIT_HEADROOM 5 /* s, t, demand           replies: number, tenths, twelve bytes of text */
-#define PAMZOLIT_WRITE 6    /* buffer length, 0, 0    replies: number, length, then the buffer (zeros before the call) */
+/* ---- refusal numbers: of several faults the first is given, by the order of checks that each function names */
+enum pamzolit_number {
+    PAMZOLIT_ACCEPTED = 0,
+    /* of a file, with their place: the offset of the faulty number's first byte, or of the first extra byte */
+    PAMZOLIT_ENDS_EARLY = 1,        /* the file ends before a number's last byte */
+    PAMZOLIT_NUMBER_TOO_LONG = 2,   /* a number's third byte has the top bit set */
+    PAMZOLIT_ZERO_GROUP = 3,        /* a number's last group of several is zero */
+    PAMZOLIT_BAD_NODE_COUNT = 4,    /* n is not 1 to 64 */
+    PAMZOLIT_TOO_MANY_LINKS = 5,    /* m is above 256 */
+    PAMZOLIT_END_NOT_A_NODE = 6,    /* an end of a link is not below n */
+    PAMZOLIT_EQUAL_ENDS = 7,        /* a link's ends are equal */
+    PAMZOLIT_LINK_TOO_LARGE = 8,    /* a link's capacity is above 1,000,000 */
+    PAMZOLIT_BYTES_FOLLOW = 9,      /* bytes follow the last link */
+    /* of a change */
+    PAMZOLIT_NO_SUCH_LINK = 10,     /* the link is not below m */
+    PAMZOLIT_CAPACITY_TOO_LARGE = 11, /* the capacity is above 1,000,000 */
+    PAMZOLIT_STACK_FULL = 12,       /* 64 changes can be undone already */
+    /* of an undo */
+    PAMZOLIT_NOTHING_TO_UNDO = 13,
+    /* of a pair, a headroom, a flow */
+    PAMZOLIT_NO_SUCH_NODE = 14,     /* s or t is not below n */
+    PAMZOLIT_SAME_NODE = 15,        /* s equals t */
+    PAMZOLIT_FLOW_LENGTH = 16,      /* a flow's buffer has not m places */
+    PAMZOLIT_DEMAND_TOO_LARGE = 17, /* a headroom's demand is above 1,000,000,000 */
+    /* of writing */
+    PAMZOLIT_BUFFER_TOO_SHORT = 18, /* the buffer is shorter than the file */
+    /* of every call on a plan, before its others */
+    PAMZOLIT_NOT_SOUND = 19
+};
 
-/* Writes what the program `pairs` prints for a file, and returns its length; SIZE_MAX, and nothing is written, if out is shorter than
- * PAMZOLIT_LISTING_MAX. */
+/* ---- a plan: 3,096 bytes without padding or pointers, which may be copied, compared and saved as they are */
+
+/* Nodes 0 to nodes - 1, and links of which link k joins a[k] and b[k] and has capacity[k]. Places from links on are
+ * 0. */
+struct pamzolit_network {
+    size_t nodes;
+    size_t links;
+    uint8_t a[PAMZOLIT_LINKS];
+    uint8_t b[PAMZOLIT_LINKS];
+    uint32_t capacity[PAMZOLIT_LINKS];
+};
+
+/* The cut tree: each node's parent, and the weight of the edge between them. Node 0 has parent and weight 0; places
+ * from nodes on are 0. */
+struct pamzolit_tree {
+    uint8_t parent[PAMZOLIT_NODES];
+    uint32_t weight[PAMZOLIT_NODES];
+};
+
+/* The steps that made the tree: for each node s from 1 up its pivot, the least minimum cut that holds s and not the
+ * pivot, and that cut's value. Node 0's places and those from nodes on are 0. */
+struct pamzolit_steps {
+    uint8_t pivot[PAMZOLIT_NODES];
+    uint64_t side[PAMZOLIT_NODES];
+    uint32_t value[PAMZOLIT_NODES];
+};
+
+/* Changes that can be undone, the newest at depth - 1: a link, and the capacity that it had before. Places from depth
+ * on are 0. */
+struct pamzolit_stack {
+    size_t depth;
+    uint16_t link[PAMZOLIT_CHANGES];
+    uint32_t capacity[PAMZOLIT_CHANGES];
+};
+
+struct pamzolit_plan {
+    struct pamzolit_network network;
+    struct pamzolit_tree tree;
+    struct pamzolit_steps steps;
+    struct pamzolit_stack stack;
+};
+
+/* ---- replies */
+
+/* The lightest edge of the tree path from s to t, the first of equals met from s: its weight, which is the limit
+ * between s and t; the node below the edge; the side that holds s once the edge is cut, which is a minimum cut; and
+ * how many nodes that side has. Beside a refusal all but the number is 0. */
+struct pamzolit_pair_reply {
+    uint32_t number;
+    uint32_t weight;
+    uint64_t side;
+    size_t node;
+    size_t size;
+};
+
+/* The pair's weight less the demand, and its text in megabits: twelve characters, right-aligned, no terminating 0.
+ * Beside a refusal the value is 0 and the text is spaces. */
+struct pamzolit_headroom_reply {
+    uint32_t number;
+    int32_t value;
+    uint8_t text[12];
+};
+
+/* ---- calls on a plan; each returns its refusal number */
+
+/* Opens a file: the plan is stored, and 0 as the place. Beside a refusal (1 to 9) *place is the place of the fault,
+ * and the plan is all zeros, which every call refuses with 19. The plan's memory may hold anything before. */
+uint32_t pamzolit_open(const uint8_t *file, size_t file_length, struct pamzolit_plan *plan, size_t *place);
+
+/* Gives a link a capacity (refusals 19, 10, 11, 12), or undoes the newest change that stands (19, 13). *count is the
+ * number of steps of the tree that were not kept; 0 beside a refusal, which leaves the plan as it was. */
+uint32_t pamzolit_change(struct pamzolit_plan *plan, size_t link, uint32_t capacity, uint32_t *count);
+uint32_t pamzolit_undo(struct pamzolit_plan *plan, uint32_t *count);
+
+/* The limit between s and t and what sets it (19, 14, 15). reply->number is what is returned. */
+uint32_t pamzolit_pair(const struct pamzolit_plan *plan, size_t s, size_t t, struct pamzolit_pair_reply *reply);
+
+/* What a demand leaves of that limit (19, 14, 15, 17). reply->number is what is returned. */
+uint32_t pamzolit_headroom(const struct pamzolit_plan *plan, size_t s, size_t t, uint32_t demand,
+                           struct pamzolit_headroom_reply *reply);
+
+/* A flow from s to t that no other exceeds (19, 14, 15, 16): out gets one number for each link, positive from a to b.
+ * Beside a refusal out is left as it was. */
+uint32_t pamzolit_flow(const struct pamzolit_plan *plan, size_t s, size_t t, int32_t *out, size_t out_length);
+
+/* Writes the plan's file to the first bytes of out (19, 18) and leaves the rest; *used is its length. Beside a
+ * refusal out is left as it was, and *used is 0. */
+uint32_t pamzolit_write(const struct pamzolit_plan *plan, uint8_t *out, size_t out_length, size_t *used);
+
+/* ---- a call on a file */
+
+/* Writes what the program `pairs` prints for a file, and returns its length; SIZE_MAX, and nothing is written, if out
+ * is shorter than PAMZOLIT_LISTING_MAX. */
 size_t pamzolit_listing(const uint8_t *file, size_t file_length, uint8_t *out, size_t out_length);
-
-/* The headroom of nodes s and t of a file for a demand in tenths of a megabit. Fills reply with 15 numbers: refusal number (0: accepted),
- * place, headroom in tenths, twelve bytes of text; returns 15, or 0, and nothing is written, if reply is shorter. */
-size_t pamzolit_headroom(const uint8_t *file, size_t file_length, size_t s, size_t t, uint32_t demand, int64_t *reply, size_t reply_length);
-
-/* Opens a file and runs calls on its plan, each four numbers: kind and arguments. Fills replies with the number and place of the first refusal
- * of the opening or of the replay (0 and 0: accepted), then each call's reply. Returns how many numbers it has written; 0, and
- * nothing is written, if replies is shorter than 2. */
-size_t pamzolit_replay(const uint8_t *file, size_t file_length, const uint32_t *calls, size_t calls_length, int64_t *replies, size_t replies_length);
 
 #ifdef __cplusplus
 }
 #endif
+
+/* ---- the layout that the archive was compiled for */
+#ifdef __cplusplus
+#define PAMZOLIT_ASSERT(holds, what) static_assert(holds, what)
+#else
+#define PAMZOLIT_ASSERT(holds, what) _Static_assert(holds, what)
+#endif
+#define PAMZOLIT_AT(type, field, offset) \
+    PAMZOLIT_ASSERT(offsetof(struct type, field) == (offset), #type "." #field " is not at " #offset)
+#define PAMZOLIT_SIZE(type, size) PAMZOLIT_ASSERT(sizeof(struct type) == (size), #type " has not " #size " bytes")
+
+PAMZOLIT_ASSERT(sizeof(size_t) == 8 && SIZE_MAX == UINT64_MAX, "size_t has not 64 bits");
+
+PAMZOLIT_SIZE(pamzolit_network, 1552);
+PAMZOLIT_AT(pamzolit_network, nodes, 0);
+PAMZOLIT_AT(pamzolit_network, links, 8);
+PAMZOLIT_AT(pamzolit_network, a, 16);
+PAMZOLIT_AT(pamzolit_network, b, 272);
+PAMZOLIT_AT(pamzolit_network, capacity, 528);
+
+PAMZOLIT_SIZE(pamzolit_tree, 320);
+PAMZOLIT_AT(pamzolit_tree, parent, 0);
+PAMZOLIT_AT(pamzolit_tree, weight, 64);
+
+PAMZOLIT_SIZE(pamzolit_steps, 832);
+PAMZOLIT_AT(pamzolit_steps, pivot, 0);
+PAMZOLIT_AT(pamzolit_steps, side, 64);
+PAMZOLIT_AT(pamzolit_steps, value, 576);
+
+PAMZOLIT_SIZE(pamzolit_stack, 392);
+PAMZOLIT_AT(pamzolit_stack, depth, 0);
+PAMZOLIT_AT(pamzolit_stack, link, 8);
+PAMZOLIT_AT(pamzolit_stack, capacity, 136);
+
+PAMZOLIT_SIZE(pamzolit_plan, 3096);
+PAMZOLIT_AT(pamzolit_plan, network, 0);
+PAMZOLIT_AT(pamzolit_plan, tree, 1552);
+PAMZOLIT_AT(pamzolit_plan, steps, 1872);
+PAMZOLIT_AT(pamzolit_plan, stack, 2704);
+
+PAMZOLIT_SIZE(pamzolit_pair_reply, 32);
+PAMZOLIT_AT(pamzolit_pair_reply, number, 0);
+PAMZOLIT_AT(pamzolit_pair_reply, weight, 4);
+PAMZOLIT_AT(pamzolit_pair_reply, side, 8);
+PAMZOLIT_AT(pamzolit_pair_reply, node, 16);
+PAMZOLIT_AT(pamzolit_pair_reply, size, 24);
+
+PAMZOLIT_SIZE(pamzolit_headroom_reply, 20);
+PAMZOLIT_AT(pamzolit_headroom_reply, number, 0);
+PAMZOLIT_AT(pamzolit_headroom_reply, value, 4);
+PAMZOLIT_AT(pamzolit_headroom_reply, text, 8);
+
+#undef PAMZOLIT_AT
+#undef PAMZOLIT_SIZE
+#undef PAMZOLIT_ASSERT
 
 #endif

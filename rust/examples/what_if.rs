@@ -1,26 +1,18 @@
-//! A planner's evening: raise each link of resort A by one megabit in turn, see which pair gains, and take the change back.
-use pamzolit::{replay, Call, Reply};
+//! A planner's evening: raise each link of resort A by one megabit in turn, see whether nodes 1 and 3 gain, and
+//! take the change back.
+use pamzolit::{Node, Plan};
+use std::error::Error;
 
 const RESORT_A: [u8; 17] = [4, 5, 0, 1, 5, 1, 2, 3, 2, 3, 4, 0, 3, 2, 0, 2, 1];
-const CAPACITIES: [u32; 5] = [5, 3, 4, 2, 1];
 
-fn main() {
-    let mut calls = vec![Call::Pair { s: 1, t: 3 }];
-    for (link, capacity) in CAPACITIES.iter().enumerate() {
-        calls.push(Call::Change { link: link as u32, capacity: capacity + 10 });
-        calls.push(Call::Pair { s: 1, t: 3 });
-        calls.push(Call::Undo);
+fn main() -> Result<(), Box<dyn Error>> {
+    let mut plan = Plan::open(&RESORT_A)?;
+    let links: Vec<_> = plan.links().collect();
+    println!("nodes 1 and 3 now: {} tenths", plan.pair(Node(1), Node(3))?.weight);
+    for link in links {
+        plan.change(link.link, link.capacity + 10)?;
+        println!("link {} raised by 10: {} tenths", link.link, plan.pair(Node(1), Node(3))?.weight);
+        plan.undo()?;
     }
-    let replies = match replay(&RESORT_A, &calls) {
-        Ok(replies) => replies,
-        Err(r) => {
-            println!("refused {} {}", r.number, r.place);
-            return;
-        }
-    };
-    let limits: Vec<u32> = replies.iter().filter_map(|r| if let Reply::Pair { weight, .. } = r { Some(*weight) } else { None }).collect();
-    println!("nodes 1 and 3 now: {} tenths", limits[0]);
-    for (link, limit) in limits[1..].iter().enumerate() {
-        println!("link {link} raised by 10: {limit} tenths");
-    }
+    Ok(())
 }

@@ -1,172 +1,140 @@
 //! The link plan: how much traffic can run between any two nodes of a network, and which links set that limit.
 //!
-//! The work is done by an archive that is written in Rattle and proved: every function of it meets its contract for every input (see
-//! `docs/PROOFS.md` of the repository). What is proved ends at the archive's functions. This crate only hands slices over and takes
-//! replies apart; it is tested, not proved, and so are the compiler's back end and the linking.
+//! A [`Plan`] is opened from a resort's network file and then asked all day. It follows changed capacities and
+//! takes them back:
 //!
-//! Every refusal of document 01 arrives as a [`Refusal`] with its number and, for a file, its place. Nothing here panics on bad input.
+//! ```
+//! use pamzolit::{Link, Node, Plan};
+//!
+//! // four nodes and five links: resort A of document 01
+//! let file = [4, 5, 0, 1, 5, 1, 2, 3, 2, 3, 4, 0, 3, 2, 0, 2, 1];
+//! let mut plan = Plan::open(&file)?;
+//! let booked = 11; // tenths of a megabit per second
+//! println!("left between 1 and 3: {}", plan.headroom(Node(1), Node(3), booked)?);
+//! # assert_eq!(plan.headroom(Node(1), Node(3), booked)?.to_string(), "-0.5");
+//! println!("limited by what leaves {}", plan.pair(Node(1), Node(3))?.side);
+//! # assert_eq!(plan.pair(Node(1), Node(3))?.side.to_string(), "{0, 1}");
+//! plan.change(Link(3), 12)?;
+//! println!("with link 3 at 1.2: {}", plan.headroom(Node(1), Node(3), booked)?);
+//! # assert_eq!(plan.headroom(Node(1), Node(3), booked)?.to_string(), "-0.3");
+//! plan.undo()?;
+//! # Ok::<(), Box<dyn std::error::Error>>(())
+//! ```
+//!
+//! # What is proved
+//!
+//! The work is done by an archive that is written in Rattle. Every function of it is proved to meet its contract
+//! for every input, and to end (`docs/PROOFS.md` of the repository says what is proved, and where it stands):
+//!
+//! - A file is accepted exactly if it is the one file of a network within the limits; else the first fault is
+//!   given, with its place ([`FileError`]). A call is refused exactly under its conditions, and then alters nothing
+//!   ([`Refusal`]).
+//! - An opened plan has a cut tree in the sense of Barth et al., Definition 1: the limit that [`Plan::pair`] gives
+//!   is the value of a minimum cut, and [`Plan::flow`] gives a flow with that total.
+//! - After any list of changes, undos, pairs and flows, refused ones among them, the plan is as one opened fresh on
+//!   the file that [`Plan::write`] gives, its capacities are the history's, and every pair's limit is exact. A
+//!   `Plan` has no other way to come about, so this holds of every one.
+//!
+//! # What is not
+//!
+//! This crate itself: it hands references and slices over and takes replies apart, in safe Rust but for one file.
+//! Its declarations of the archive's functions and structs are tested against an independent model, not proved, and
+//! so are the compiler's back end and the linking. Nothing is said of time.
+//!
+//! Nothing here panics on bad input or allocates by a caller's number. A plan is plain data of 3,096 bytes, and
+//! `Send` and `Sync`.
+#![deny(missing_docs, unsafe_code)]
 
-mod ffi {
-    extern "C" {
-        pub fn pamzolit_listing(file: *const u8, file_length: usize, out: *mut u8, out_length: usize) -> usize;
-        pub fn pamzolit_headroom(
-            file: *const u8,
-            file_length: usize,
-            s: usize,
-            t: usize,
-            demand: u32,
-            reply: *mut i64,
-            reply_length: usize,
-        ) -> usize;
-        pub fn pamzolit_replay(
-            file: *const u8,
-            file_length: usize,
-            calls: *const u32,
-            calls_length: usize,
-            replies: *mut i64,
-            replies_length: usize,
-        ) -> usize;
-    }
-}
+mod ffi;
+mod plan;
+mod refusal;
+mod reply;
+mod side;
 
-/// The most bytes that a listing has; `pamzolit_listing` asks for a buffer of this length.
-pub const LISTING_MAX: usize = 183_040;
+pub use plan::Plan;
+pub use refusal::{FileError, Refusal};
+pub use reply::{Change, Headroom, LinkState, Pair, Step, TreeEdge};
+pub use side::{Link, Node, Nodes, Side};
 
-/// The most calls of one replay.
-pub const CALLS_MAX: usize = 4096;
+/// The most nodes of a network.
+///
+/// ```
+/// # use pamzolit::{NODES_MAX, Plan};
+/// assert!(Plan::open(&[NODES_MAX as u8, 0]).is_ok() && Plan::open(&[NODES_MAX as u8 + 1, 0]).is_err());
+/// ```
+pub const NODES_MAX: usize = 64;
 
-/// A refusal: its number, and the place of the fault in a file (numbers 1 to 9) or of a bad call in a list (number 102); else 0.
-#[derive(Clone, Copy, Debug, PartialEq, Eq)]
-pub struct Refusal {
-    pub number: u32,
-    pub place: usize,
-}
+/// The most links of a network.
+///
+/// ```
+/// # use pamzolit::{FileError, LINKS_MAX, Plan};
+/// // 257 in groups of seven bits
+/// assert_eq!(LINKS_MAX + 1, 0x01 + (2 << 7));
+/// assert_eq!(Plan::open(&[2, 0x81, 2]).unwrap_err(), FileError::TooManyLinks { place: 1 });
+/// ```
+pub const LINKS_MAX: usize = 256;
 
-/// A headroom: the pair's limit less the demand, in tenths of a megabit, and its text of twelve bytes.
-#[derive(Clone, Debug, PartialEq, Eq)]
-pub struct Headroom {
-    pub tenths: i32,
-    pub text: String,
-}
+/// The highest capacity of a link, in tenths of a megabit per second.
+///
+/// ```
+/// # use pamzolit::{CAPACITY_MAX, Link, Plan};
+/// let mut plan = Plan::open(&[2, 1, 0, 1, 6])?;
+/// assert!(plan.change(Link(0), CAPACITY_MAX).is_ok() && plan.change(Link(0), CAPACITY_MAX + 1).is_err());
+/// # Ok::<(), pamzolit::FileError>(())
+/// ```
+pub const CAPACITY_MAX: u32 = 1_000_000;
 
-/// A call on an opened plan.
-#[derive(Clone, Copy, Debug, PartialEq, Eq)]
-pub enum Call {
-    Change { link: u32, capacity: u32 },
-    Undo,
-    Pair { s: u32, t: u32 },
-    Flow { s: u32, t: u32, size: u32 },
-    Headroom { s: u32, t: u32, demand: u32 },
-    Write { size: u32 },
-}
+/// The highest demand of a headroom, in tenths of a megabit per second.
+///
+/// ```
+/// # use pamzolit::{DEMAND_MAX, Node, Plan};
+/// let plan = Plan::open(&[2, 1, 0, 1, 6])?;
+/// assert_eq!(plan.headroom(Node(0), Node(1), DEMAND_MAX)?.text(), " -99999999.4");
+/// assert!(plan.headroom(Node(0), Node(1), DEMAND_MAX + 1).is_err());
+/// # Ok::<(), Box<dyn std::error::Error>>(())
+/// ```
+pub const DEMAND_MAX: u32 = 1_000_000_000;
 
-/// The reply to a call. A number of 0 means accepted.
-#[derive(Clone, Debug, PartialEq, Eq)]
-pub enum Reply {
-    Changed { number: u32, count: u32 },
-    Pair { number: u32, weight: u32, node: u32, side: u64, size: u32 },
-    Flow { number: u32, buffer: Vec<i32> },
-    Headroom { number: u32, tenths: i32, text: Vec<u8> },
-    Written { number: u32, length: usize, buffer: Vec<u8> },
-}
+/// The most changes that can be undone.
+///
+/// ```
+/// # use pamzolit::{CHANGES_MAX, Link, Plan, Refusal};
+/// let mut plan = Plan::open(&[2, 1, 0, 1, 6])?;
+/// for capacity in 0..CHANGES_MAX {
+///     plan.change(Link(0), capacity as u32)?;
+/// }
+/// assert_eq!(plan.change(Link(0), 0), Err(Refusal::StackFull));
+/// # Ok::<(), Box<dyn std::error::Error>>(())
+/// ```
+pub const CHANGES_MAX: usize = 64;
 
-/// What the program `pairs` prints for a file: the tree and every pair, or one line `refused NUMBER PLACE`.
-pub fn listing(file: &[u8]) -> Vec<u8> {
-    let mut out = vec![0u8; LISTING_MAX];
-    // SAFETY: both slices are lent for the call with their own lengths.
-    let length = unsafe { ffi::pamzolit_listing(file.as_ptr(), file.len(), out.as_mut_ptr(), out.len()) };
+/// The bytes of the longest file.
+///
+/// ```
+/// # use pamzolit::{FILE_MAX, Plan};
+/// // 64 nodes; 256 links, each of two ends and a capacity of three groups
+/// let mut file = vec![64, 0x80, 2];
+/// file.extend([0, 1, 0xc0, 0x84, 0x3d].repeat(256));
+/// assert_eq!(file.len(), FILE_MAX);
+/// assert_eq!(Plan::open(&file)?.write(), file);
+/// # Ok::<(), pamzolit::FileError>(())
+/// ```
+pub const FILE_MAX: usize = 1_283;
+
+// the length that the archive asks of a listing's buffer: more than any listing has
+const LISTING_MAX: usize = 183_040;
+
+/// What the program `pairs` prints for a file: the edges of the tree, then the limit and the side of every two
+/// nodes; or one line `refused`, number, place.
+///
+/// ```
+/// assert_eq!(pamzolit::listing(&[2, 1, 0, 1, 6]), "tree 1 0 6\npair 0 1 6 1\n");
+/// assert_eq!(pamzolit::listing(&[2, 1, 0, 0, 0]), "refused 7 3\n");
+/// ```
+pub fn listing(file: &[u8]) -> String {
+    let mut out = vec![0; LISTING_MAX];
+    let length = ffi::listing(file, &mut out);
     out.truncate(length);
-    out
-}
-
-/// The headroom of two nodes of a network file for a demand.
-pub fn headroom(file: &[u8], s: usize, t: usize, demand: u32) -> Result<Headroom, Refusal> {
-    let mut reply = [0i64; 15];
-    // SAFETY: both slices are lent for the call with their own lengths.
-    unsafe { ffi::pamzolit_headroom(file.as_ptr(), file.len(), s, t, demand, reply.as_mut_ptr(), reply.len()) };
-    if reply[0] != 0 {
-        return Err(Refusal { number: reply[0] as u32, place: reply[1] as usize });
-    }
-    let text = reply[3..].iter().map(|&b| b as u8 as char).collect();
-    Ok(Headroom { tenths: reply[2] as i32, text })
-}
-
-impl Call {
-    fn numbers(self) -> [u32; 4] {
-        match self {
-            Call::Change { link, capacity } => [1, link, capacity, 0],
-            Call::Undo => [2, 0, 0, 0],
-            Call::Pair { s, t } => [3, s, t, 0],
-            Call::Flow { s, t, size } => [4, s, t, size],
-            Call::Headroom { s, t, demand } => [5, s, t, demand],
-            Call::Write { size } => [6, size, 0, 0],
-        }
-    }
-
-    /// How many numbers the reply to this call has.
-    fn reply_numbers(self) -> usize {
-        match self {
-            Call::Change { .. } | Call::Undo => 2,
-            Call::Pair { .. } => 6,
-            Call::Flow { size, .. } => 1 + size as usize,
-            Call::Headroom { .. } => 14,
-            Call::Write { size } => 2 + size as usize,
-        }
-    }
-
-    fn reply(self, n: &[i64]) -> Reply {
-        let number = n[0] as u32;
-        match self {
-            Call::Change { .. } | Call::Undo => Reply::Changed { number, count: n[1] as u32 },
-            Call::Pair { .. } => Reply::Pair {
-                number,
-                weight: n[1] as u32,
-                node: n[2] as u32,
-                side: n[3] as u64 | (n[4] as u64) << 32,
-                size: n[5] as u32,
-            },
-            Call::Flow { .. } => Reply::Flow { number, buffer: n[1..].iter().map(|&x| x as i32).collect() },
-            Call::Headroom { .. } => Reply::Headroom {
-                number,
-                tenths: n[1] as i32,
-                text: n[2..].iter().map(|&x| x as u8).collect(),
-            },
-            Call::Write { .. } => Reply::Written {
-                number,
-                length: n[1] as usize,
-                buffer: n[2..].iter().map(|&x| x as u8).collect(),
-            },
-        }
-    }
-}
-
-/// Opens a file and runs the calls on its plan, one after the other. The buffers of flow and write calls hold zeros before the call.
-pub fn replay(file: &[u8], calls: &[Call]) -> Result<Vec<Reply>, Refusal> {
-    let numbers: Vec<u32> = calls.iter().flat_map(|c| c.numbers()).collect();
-    let room: usize = calls.iter().map(|c| c.reply_numbers()).sum();
-    let mut replies = vec![0i64; 2 + room];
-    // SAFETY: the three slices are lent for the call with their own lengths.
-    unsafe {
-        ffi::pamzolit_replay(
-            file.as_ptr(),
-            file.len(),
-            numbers.as_ptr(),
-            numbers.len(),
-            replies.as_mut_ptr(),
-            replies.len(),
-        )
-    };
-    if replies[0] != 0 {
-        return Err(Refusal { number: replies[0] as u32, place: replies[1] as usize });
-    }
-    let mut at = 2;
-    Ok(calls
-        .iter()
-        .map(|c| {
-            let end = at + c.reply_numbers();
-            let reply = c.reply(&replies[at..end]);
-            at = end;
-            reply
-        })
-        .collect())
+    // proved: letters, digits, spaces and line feeds
+    String::from_utf8_lossy(&out).into_owned()
 }

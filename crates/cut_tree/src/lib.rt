@@ -12,12 +12,14 @@ pub use crate::trees::rebuild;
 use network::MAX_NODES;
 
 // A cut tree: every node's parent, and the weight of the edge between them. Node 0 has parent 0 and weight 0.
+#[repr(C)]
 pub struct Tree {
     pub parent: [u8; MAX_NODES],
     pub weight: [u32; MAX_NODES],
 }
 
 // The steps that made a tree: for each node from 1 up its pivot, its least minimum cut and that cut's value.
+#[repr(C)]
 pub struct Steps {
     pub pivot: [u8; MAX_NODES],
     pub side: [u64; MAX_NODES],

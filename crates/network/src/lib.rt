@@ -30,6 +30,7 @@ pub const MAX_VALUE: u32 = 256_000_000;
 pub const MAX_GROUPS: usize = 3;
 
 // A network: nodes 0 to nodes - 1, and links of which link k joins a[k] and b[k] and has capacity[k]. Unused places are 0.
+#[repr(C)]
 pub struct Network {
     pub nodes: usize,
     pub links: usize,

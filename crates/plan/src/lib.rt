@@ -24,6 +24,7 @@ use network::Network;
 pub const MAX_DEPTH: usize = 64;
 
 // Changes that can be undone: entry i is a link and the capacity that it had before; the top is entry depth - 1. Unused places are 0.
+#[repr(C)]
 pub struct Stack {
     pub depth: usize,
     pub link: [u16; MAX_DEPTH],
@@ -31,6 +32,7 @@ pub struct Stack {
 }
 
 // A network with its cut tree, the steps that made the tree, and the changes that can be undone.
+#[repr(C)]
 pub struct Plan {
     pub network: Network,
     pub tree: Tree,
@@ -52,6 +54,7 @@ pub struct Changed {
     pub plan: Plan,
 }
 
+#[repr(C)]
 pub struct HeadroomReply {
     pub number: u32,
     pub value: i32,

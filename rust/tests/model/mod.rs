@@ -1,5 +1,6 @@
-//! An independent model of document 01, by definition and not by the library's algorithm: every side is tried where the network is small, and a
-//! preflow-push over a matrix gives the least minimum cut where it is large. It shares no code with the library.
+//! An independent model of document 01, by definition and not by the library's algorithm: every side is tried where
+//! the network is small, and a preflow-push over a matrix gives the least minimum cut where it is large. It shares
+//! no code with the library.
 #![allow(dead_code)] // each test uses its part
 
 pub const SMALL: usize = 9;
@@ -107,14 +108,11 @@ impl Network {
 
     /// The least minimum cut of (s, t) and its value.
     pub fn least_cut(&self, s: usize, t: usize) -> (u64, u64) {
-        if self.nodes <= SMALL {
-            self.least_by_trial(s, t)
-        } else {
-            self.least_by_preflow(s, t)
-        }
+        if self.nodes <= SMALL { self.least_by_trial(s, t) } else { self.least_by_preflow(s, t) }
     }
 
-    /// Every side is tried; of the cheapest ones that hold s and not t, the common part is taken and must itself be one of them.
+    /// Every side is tried; of the cheapest ones that hold s and not t, the common part is taken and must itself be
+    /// one of them.
     pub fn least_by_trial(&self, s: usize, t: usize) -> (u64, u64) {
         let sides = (0..1u64 << self.nodes).filter(|x| x >> s & 1 == 1 && x >> t & 1 == 0);
         let mut best = u64::MAX;
@@ -132,7 +130,8 @@ impl Network {
         (common, best)
     }
 
-    /// Preflow-push from t towards s. What can still be pushed to s at the end is the smallest side of s of a minimum cut.
+    /// Preflow-push from t towards s. What can still be pushed to s at the end is the smallest side of s of a
+    /// minimum cut.
     pub fn least_by_preflow(&self, s: usize, t: usize) -> (u64, u64) {
         let n = self.nodes;
         let mut rest = vec![vec![0i64; n]; n];
@@ -199,9 +198,9 @@ impl Tree {
             let t = parent[s];
             let (x, w) = net.least_cut(s, t);
             weight[s] = w;
-            for h in 0..n {
-                if h != s && x >> h & 1 == 1 && parent[h] == t {
-                    parent[h] = s;
+            for (h, above) in parent.iter_mut().enumerate() {
+                if h != s && x >> h & 1 == 1 && *above == t {
+                    *above = s;
                 }
             }
             let q = parent[t];
@@ -358,6 +357,11 @@ impl Plan {
             out[b] -= flow[k] as i64;
         }
         let total = self.net.least_cut(s, t).1 as i64;
-        (0..self.net.nodes).all(|h| out[h] == if h == s { total } else if h == t { -total } else { 0 })
+        let due = |h| match h {
+            _ if h == s => total,
+            _ if h == t => -total,
+            _ => 0,
+        };
+        (0..self.net.nodes).all(|h| out[h] == due(h))
     }
 }

@@ -1,0 +1,14 @@
+//! The proved library against the independent model: random and damaged files, and histories of calls on held
+//! plans. Seeded; PAMZOLIT_FILES and PAMZOLIT_HISTORIES set the numbers of cases for a longer run.
+#[path = "../model/mod.rs"]
+mod model;
+#[path = "../random/mod.rs"]
+mod random;
+
+mod files;
+mod histories;
+mod same;
+
+fn cases(name: &str, usual: usize) -> usize {
+    std::env::var(name).ok().and_then(|v| v.parse().ok()).unwrap_or(usual)
+}

@@ -1,0 +1,34 @@
+//! Whether what a plan holds is what the model holds.
+use crate::model;
+use pamzolit::{Change, Link, LinkState, Node, Side, Step, TreeEdge};
+
+fn links(plan: &model::Plan) -> Vec<LinkState> {
+    let state = |(k, &(a, b, capacity))| LinkState { link: Link(k), a: Node(a), b: Node(b), capacity };
+    plan.net.links.iter().enumerate().map(state).collect()
+}
+
+fn tree(plan: &model::Plan) -> Vec<TreeEdge> {
+    let edge = |i| TreeEdge { node: Node(i), parent: Node(plan.tree.parent[i]), weight: plan.tree.weight[i] as u32 };
+    (1..plan.net.nodes).map(edge).collect()
+}
+
+fn steps(plan: &model::Plan) -> Vec<Step> {
+    let step = |i: usize| {
+        let (pivot, side, value) = plan.tree.steps[i];
+        Step { node: Node(i), pivot: Node(pivot), side: Side::from_bits(side), value: value as u32 }
+    };
+    (1..plan.net.nodes).map(step).collect()
+}
+
+fn changes(plan: &model::Plan) -> Vec<Change> {
+    plan.stack.iter().map(|&(k, before)| Change { link: Link(k), before }).collect()
+}
+
+/// Network, tree, steps and stack.
+pub fn same_plan(held: &pamzolit::Plan, want: &model::Plan) -> bool {
+    held.node_count() == want.net.nodes
+        && held.links().eq(links(want))
+        && held.tree().eq(tree(want))
+        && held.steps().eq(steps(want))
+        && held.changes().eq(changes(want))
+}

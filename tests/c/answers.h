@@ -1,0 +1,113 @@
+/* What a call on a plan must answer, from what the plan holds. */
+#ifndef ANSWERS_H
+#define ANSWERS_H
+
+#include "desk.h"
+#include "files.h"
+#include "flows.h"
+#include "pairs.h"
+#include "sound.h"
+#include "table.h"
+
+/* ---- an accepted change or undo sets one capacity and the stack, and leaves a plan that is sound */
+
+static inline void must_have_set(const struct pamzolit_plan *was, const struct desk *desk, size_t link,
+                                 uint32_t capacity)
+{
+    struct pamzolit_network want = was->network;
+    want.capacity[link] = capacity;
+    MUST(memcmp(&want, &desk->plan.network, sizeof want) == 0);
+    MUST(desk->count < want.nodes);
+    MUST(sound(&desk->plan));
+}
+
+static inline void must_have_changed(const struct pamzolit_plan *was, const struct desk *desk, const struct question *q)
+{
+    struct pamzolit_stack want = was->stack;
+    want.link[want.depth] = (uint16_t)q->link;
+    want.capacity[want.depth++] = was->network.capacity[q->link];
+    MUST(memcmp(&want, &desk->plan.stack, sizeof want) == 0);
+    must_have_set(was, desk, q->link, q->capacity);
+}
+
+static inline void must_have_undone(const struct pamzolit_plan *was, const struct desk *desk)
+{
+    struct pamzolit_stack want = was->stack;
+    size_t top = --want.depth;
+    want.link[top] = 0;
+    want.capacity[top] = 0;
+    MUST(memcmp(&want, &desk->plan.stack, sizeof want) == 0);
+    must_have_set(was, desk, was->stack.link[top], was->stack.capacity[top]);
+}
+
+/* ---- the reply that an accepted call left on the desk, `was` being the plan that it was given */
+
+static inline void must_have_flowed(const struct pamzolit_network *net, const int32_t *flow, size_t s, size_t t)
+{
+    MUST(lawful(net, flow, s, t));
+    MUST(largest(net, flow, s, t));
+}
+
+static inline void must_have_written(const struct pamzolit_network *net, const struct desk *desk)
+{
+    struct file want = file_of(net);
+    MUST(desk->used == want.length && memcmp(desk->file, want.bytes, want.length) == 0);
+}
+
+static inline void must_have_answered(enum call call, const struct pamzolit_plan *was, const struct desk *desk,
+                                      const struct question *q)
+{
+    struct pamzolit_pair_reply pair;
+    struct pamzolit_headroom_reply headroom;
+    switch (call) {
+    case CHANGE: must_have_changed(was, desk, q); break;
+    case UNDO: must_have_undone(was, desk); break;
+    case PAIR:
+        pair = pair_of(was, q->s, q->t);
+        MUST(memcmp(&pair, &desk->pair, sizeof pair) == 0);
+        break;
+    case HEADROOM:
+        headroom = headroom_of(pair_of(was, q->s, q->t).weight, q->demand);
+        MUST(memcmp(&headroom, &desk->headroom, sizeof headroom) == 0);
+        break;
+    case FLOW: must_have_flowed(&was->network, desk->flow, q->s, q->t); break;
+    default: must_have_written(&was->network, desk);
+    }
+}
+
+/* how often each call gave each number */
+static size_t given[CALLS][PAMZOLIT_NOT_SOUND + 1];
+
+/* all six calls, each on the desk's plan as it is now; whether it is sound */
+static inline bool must_answer_all(struct desk *desk, const struct question *q)
+{
+    struct pamzolit_plan was = desk->plan;
+    bool keeps_shape = sound(&was);
+    for (enum call call = 0; call < CALLS; call++) {
+        uint32_t number = keeps_shape ? number_of(call, &was, q) : 19;
+        MUST(called(call, desk, q) == number);
+        given[call][number]++;
+        if (number == 0)
+            must_have_answered(call, &was, desk, q);
+        desk->plan = was;
+    }
+    return keeps_shape;
+}
+
+/* a row of the table that was never met was not tested */
+static inline void must_have_met_all_rows(size_t least)
+{
+    static const uint32_t numbers[CALLS][5] = {
+        [CHANGE] = {0, 10, 11, 12, 19},
+        [UNDO] = {0, 13, 19},
+        [PAIR] = {0, 14, 15, 19},
+        [HEADROOM] = {0, 14, 15, 17, 19},
+        [FLOW] = {0, 14, 15, 16, 19},
+        [WRITE] = {0, 18, 19},
+    };
+    for (enum call call = 0; call < CALLS; call++)
+        for (int i = 0; i < 5; i++)
+            MUST(given[call][numbers[call][i]] >= least);
+}
+
+#endif
