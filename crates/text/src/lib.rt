@@ -22,7 +22,7 @@ fn negated(z: i32) -> i32
     requires { ⌜ natAbs z < 2 ^ 31 ⌝ }
     ensures { λ r. ⌜ r ≡ negℤ z ⌝ }
 {
-    0 - z
+    -z
 }
 
 fn is_negative(z: i32) -> bool
