@@ -2,19 +2,19 @@
 use mathlib.Core.Path.{_≡_, refl, sym, ap, ap₂, _∙_, subst}
 use mathlib.Core.Bool.{Bool, true, false, cond}
 use mathlib.Core.List.{List, [], _∷_, _++_, append-assoc}
-use Prim.Native.Nat.{ℕ, zero, suc, _+_, _-_, _*_, _/_, _%_, _^_, _≤_, _<_, zero-le}
+use Prim.Native.Nat.{ℕ, zero, suc, _+_, _-_, _/_, _%_, _^_, _≤_, _<_, zero-le}
 use native.Mathlib.Omega.{arith}
 use native.Mathlib.Nat.{le-refl}
 use lib.Dec.{T, ltb, leb·suc-zero}
-use borrow.Author.Tests.{ltb-true, ltb-false}
-use lib.IntN.{ℤ, pos, negsuc, _+ℤ_, _-ℤ_, negℤ, natAbs, subℕ, +ℤ-idl}
+use borrow.Author.Tests.{lt-ltb, ltb-true, ltb-false}
+use lib.IntN.{ℤ, pos, negsuc, _+ℤ_, _-ℤ_, negℤ, natAbs, +ℤ-idl, negℤ-negℤ}
 use lib.Signed.{mag, ltZ, nonNeg}
 use lib.ListN.{length, drop, set, length-set}
 use lib.Seq.{drop-cons, getD-set-same, drop-set-lt}
 use mir.Syntax.{w32}
 use mir.Val.{SFits, Fits, toZ, ofZ}
 use mir.Facts.{toZ-ofZ, toZ-pos}
-use Rattle.text.specs.Columns.{isNegative, markOf, owes, leading, tenthsFrom}
+use Rattle.text.specs.Columns.{isNegative, markOf, owes, leading}
 
 -- ---- a difference of two numbers below 2 ^ 31
 cond-mag : (t : Bool) (p q m : ℕ) → p < m → q < m → mag (cond t (negsuc p) (pos q)) < m
@@ -32,20 +32,15 @@ pub diff-is : (a b : ℕ) → a < 2 ^ 31 → b < 2 ^ 31 → toZ w32 (ofZ w32 (to
 diff-is a b h k = toZ-ofZ (diff-fits a b h k) ∙ ap₂ _-ℤ_ (toZ-pos w32 h) (toZ-pos w32 k)
 
 -- ---- signs
-pub neg-mag : (z : ℤ) → mag (negℤ z) ≤ natAbs z
+neg-mag : (z : ℤ) → mag (negℤ z) ≤ natAbs z
 neg-mag (pos zero) = zero-le
 neg-mag (pos (suc n)) = omega arith
 neg-mag (negsuc n) = omega arith
 
-pub neg-abs : (z : ℤ) → natAbs (negℤ z) ≡ natAbs z
+neg-abs : (z : ℤ) → natAbs (negℤ z) ≡ natAbs z
 neg-abs (pos zero) = refl
 neg-abs (pos (suc n)) = refl
 neg-abs (negsuc n) = refl
-
-pub neg-isNegative : (z : ℤ) → isNegative z ≡ true → isNegative (negℤ z) ≡ false
-neg-isNegative (pos zero) e = refl
-neg-isNegative (pos (suc n)) e = sym e
-neg-isNegative (negsuc n) e = refl
 
 pub neg-fits : (z : ℤ) → SFits w32 z → natAbs z < 2 ^ 31 → SFits w32 (pos 0 -ℤ toZ w32 (ofZ w32 z))
 neg-fits z f h = rw (toZ-ofZ f, +ℤ-idl (negℤ z)) (record { sfits = omega (arith, neg-mag z) })
@@ -98,14 +93,6 @@ pub lead-none : (w : ℕ) (o : Bool) (t : List ℕ) → leading 0 w o ++ t ≡ t
 unfolding leading
 lead-none w o t = refl
 
-cond-abs : (t : Bool) (p q m : ℕ) → suc p < m → q < m → natAbs (cond t (negsuc p) (pos q)) < m
-cond-abs true p q m h k = h
-cond-abs false p q m h k = k
-
-pub diff-abs : (a b m : ℕ) → a < m → b < m → natAbs (pos a -ℤ pos b) < m
-diff-abs a zero m h k = omega arith
-diff-abs a (suc b) m h k = cond-abs (ltb a (suc b)) (suc b - suc a) (a - suc b) m (omega arith) (omega arith)
-
 -- ---- the complement of a negative number's bits
 pub not-is : (z : ℤ) → SFits w32 z → isNegative z ≡ true → toZ w32 (4294967295 - ofZ w32 z) ≡ pos (mag z)
 not-is (pos n) f e = absurd (subst (λ (b : Bool). T b) (sym e) tt)
@@ -113,9 +100,31 @@ not-is (negsuc n) f e =
     let h : n < 2 ^ 31 = f .sfits in
     let q : 4294967295 - (2 ^ 32 - suc n) ≡ n = omega arith in ap (toZ w32) q ∙ toZ-pos w32 h
 
+-- ---- one above a number below zero: it can be negated, and its magnitude is one less
+up-is : (z : ℤ) → isNegative z ≡ true → z +ℤ pos 1 ≡ negℤ (pos (mag z))
+up-is (pos n) e = absurd (subst (λ (b : Bool). T b) (sym e) tt)
+up-is (negsuc zero) e = refl
+up-is (negsuc (suc n)) e =
+    let d : suc (suc n) - 2 ≡ n = omega arith in
+    rw (lt-ltb 1 (suc (suc n)) (omega arith), d)
+
 pub mag-abs : (z : ℤ) → isNegative z ≡ true → mag z + 1 ≡ natAbs z
 mag-abs (pos n) e = absurd (subst (λ (b : Bool). T b) (sym e) tt)
 mag-abs (negsuc n) e = omega arith
+
+module _ (z : ℤ) (f : SFits w32 z) (e : isNegative z ≡ true) where
+  pub up-fits : SFits w32 (toZ w32 (ofZ w32 z) +ℤ pos 1)
+  up-fits = rw (toZ-ofZ f, up-is z e) (record { sfits = omega (arith, neg-mag (pos (mag z)), f .sfits) })
+
+  -- as it is handed on
+  up-passed : toZ w32 (ofZ w32 (toZ w32 (ofZ w32 z) +ℤ pos 1)) ≡ negℤ (pos (mag z))
+  up-passed = toZ-ofZ up-fits ∙ rw (toZ-ofZ f) (up-is z e)
+
+  pub up-small : natAbs (toZ w32 (ofZ w32 (toZ w32 (ofZ w32 z) +ℤ pos 1))) < 2 ^ 31
+  up-small = rw (up-passed, neg-abs (pos (mag z))) (f .sfits)
+
+  pub up-negated : negℤ (toZ w32 (ofZ w32 (toZ w32 (ofZ w32 z) +ℤ pos 1))) ≡ pos (mag z)
+  up-negated = rw up-passed (negℤ-negℤ (pos (mag z)))
 
 -- ---- the sign and the magnitude of a difference
 cond-neg : (t : Bool) (p q : ℕ) → isNegative (cond t (negsuc p) (pos q)) ≡ t

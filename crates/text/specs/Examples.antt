@@ -1,8 +1,7 @@
 -- Worked examples: texts of document 01, and the ends of the range.
 use mathlib.Core.Path.{_≡_, refl}
-use mathlib.Core.List.{List, [], _∷_}
-use Prim.Native.Nat.{ℕ}
-use lib.IntN.{ℤ, pos, negsuc}
+use mathlib.Core.List.{[], _∷_}
+use lib.IntN.{pos, negsuc}
 use Rattle.text.specs.Text.{digits, decimal, textOf}
 
 -- half a megabit short: "-0.5"
@@ -34,6 +33,15 @@ lowest = refl
 highest : textOf (pos 256000000) ≡ 32 ∷ 32 ∷ 50 ∷ 53 ∷ 54 ∷ 48 ∷ 48 ∷ 48 ∷ 48 ∷ 48 ∷ 46 ∷ 48 ∷ []
 unfolding textOf digits
 highest = refl
+
+-- the least number of 32 bits, "-214748364.8", fills all twelve places too, and the greatest, "214748364.7", all but one
+least : textOf (negsuc 2147483647) ≡ 45 ∷ 50 ∷ 49 ∷ 52 ∷ 55 ∷ 52 ∷ 56 ∷ 51 ∷ 54 ∷ 52 ∷ 46 ∷ 56 ∷ []
+unfolding textOf digits
+least = refl
+
+greatest : textOf (pos 2147483647) ≡ 32 ∷ 50 ∷ 49 ∷ 52 ∷ 55 ∷ 52 ∷ 56 ∷ 51 ∷ 54 ∷ 52 ∷ 46 ∷ 55 ∷ []
+unfolding textOf digits
+greatest = refl
 
 decimal-zero : decimal 0 ≡ 48 ∷ []
 unfolding digits

@@ -2,16 +2,16 @@
 use mathlib.Core.Path.{_≡_, refl, sym, ap, ap₂, _∙_}
 use mathlib.Core.Bool.{Bool, true, false}
 use mathlib.Core.List.{List, [], _∷_, _++_, append-assoc}
-use Prim.Native.Nat.{ℕ, zero, suc, _+_, _-_, _*_, _/_, _%_, _^_, _≤_, _<_}
+use Prim.Native.Nat.{ℕ, zero, suc, _+_, _-_, _/_, _%_, _^_, _≤_, _<_}
 use native.Mathlib.Omega.{arith}
-use lib.ListN.{length, replicate, set, length-set, length-append}
+use lib.ListN.{length, replicate, set, length-append}
 use lib.Seq.{sets}
 use lib.Dec.{ltb}
 use lib.IntN.{ℤ, pos, negsuc, natAbs}
 use borrow.Author.Tests.{ltb-true, ltb-false, lt-ltb}
 use Rattle.network.specs.Basics.{pick}
-use Rattle.text.specs.Text.{digits, decimal, rightAligned, signOf, textWidth, textOf}
-use Rattle.text.specs.Columns.{isNegative, markOf, owes, leading, tenthsFrom}
+use Rattle.text.specs.Text.{digits, decimal, rightAligned, textWidth, textOf}
+use Rattle.text.specs.Columns.{isNegative, markOf, leading, tenthsFrom}
 
 abbrev sign : Bool → List ℕ
 sign true = 45 ∷ []
@@ -137,7 +137,8 @@ sign-length : (b : Bool) → length (sign b) ≤ 1
 sign-length true = omega arith
 sign-length false = omega arith
 
-tenths-by : (m : ℕ) (negative : Bool) → m < 2 ^ 31 → tenthsFrom m negative ≡ rightAligned textWidth (sign negative ++ (decimal (m / 10) ++ (46 ∷ (48 + m % 10) ∷ [])))
+tenths-by : (m : ℕ) (negative : Bool) → m ≤ 2 ^ 31
+    → tenthsFrom m negative ≡ rightAligned textWidth (sign negative ++ (decimal (m / 10) ++ (46 ∷ (48 + m % 10) ∷ [])))
 unfolding tenthsFrom
 tenths-by m negative l =
     ap (λ xs. xs ++ last) (leading-is 9 19 (m / 100) negative (omega arith) fits) ∙ sym (aligned-more 9 (sign negative ++ body 19 (m / 100)) last) ∙ ap (rightAligned 12) (sym split)
@@ -157,7 +158,7 @@ tenths-by m negative l =
         ∙ ap (λ xs. sign negative ++ xs) (append-assoc (body 19 (m / 100)) ((48 + m / 10 % 10) ∷ []) (46 ∷ (48 + m % 10) ∷ []))
         ∙ sym (append-assoc (sign negative) (body 19 (m / 100)) last)
 
-pub tenths-text : (z : ℤ) → natAbs z < 2 ^ 31 → tenthsFrom (natAbs z) (isNegative z) ≡ textOf z
+pub tenths-text : (z : ℤ) → natAbs z ≤ 2 ^ 31 → tenthsFrom (natAbs z) (isNegative z) ≡ textOf z
 unfolding textOf
 tenths-text (pos n) l = tenths-by n false l
 tenths-text (negsuc n) l = tenths-by (suc n) true l

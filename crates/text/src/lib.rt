@@ -1,14 +1,14 @@
-ghost use lib.IntN.{ℤ, natAbs, negℤ, pos, _-ℤ_};
+ghost use lib.IntN.{natAbs, negℤ, pos, _-ℤ_};
 ghost use mathlib.Core.Bool.{false};
 ghost use mathlib.Core.Path.{_≡_};
 ghost use lib.ListN.{length};
 ghost use lib.Seq.{sets};
-ghost use Prim.Native.Nat.{ℕ, _+_, _<_, _≤_, _^_};
-ghost use Rattle.text.specs.Columns.{isNegative, leading, markOf, owes, tenthsFrom};
+ghost use Prim.Native.Nat.{_+_, _<_, _≤_, _^_};
+ghost use Rattle.text.specs.Columns.{isNegative, markOf, owes, tenthsFrom};
 ghost use Rattle.text.specs.Text.{decimal, textOf};
 
-// Signed tenths: their difference, sign and size, and their text of twelve bytes. The places before the last three are filled from the right:
-// digits while there are any, then a minus if one is owed, then spaces.
+// Signed tenths: their difference, sign and size, and their text of twelve bytes. The places before the last three are
+// filled from the right: digits while there are any, then a minus if one is owed, then spaces.
 
 // What is left of a weight beside a demand.
 pub fn difference(weight: u32, demand: u32) -> i32
@@ -38,12 +38,12 @@ fn plain(z: i32) -> u32
     z as u32
 }
 
+// Below zero the number one above is negated: the least number's own negation would not fit.
 fn magnitude(z: i32) -> u32
-    requires { ⌜ natAbs z < 2 ^ 31 ⌝ }
     ensures { λ r. ⌜ r ≡ natAbs z ⌝ }
 {
     if is_negative(z) {
-        plain(negated(z))
+        plain(negated(z + 1)) + 1
     } else {
         plain(z)
     }
@@ -88,7 +88,6 @@ fn tenths_from(m: u32, negative: bool) -> [u8; 12]
 
 // A number of tenths as text.
 pub fn tenths(z: i32) -> [u8; 12]
-    requires { ⌜ natAbs z < 2 ^ 31 ⌝ }
     ensures { λ r. ⌜ r ≡ textOf z ⌝ }
 {
     let m = magnitude(z);

@@ -1,34 +1,30 @@
-use mir.Facts.{toZ-ofZ}
+-- `text::tenths` meets its contract: the magnitude of an i32 is at most 2 ^ 31.
 use mathlib.Core.Path.{ap, ap₂, _∙_}
-use lib.IntN.{natAbs}
-use Rattle.text.specs.Columns.{isNegative, tenthsFrom}
 use borrow.Author.Needs.{needs}
+use lib.IntN.{natAbs}
+use lib.Signed.{natAbs-le}
+use mir.Facts.{toZ-ofZ}
+use Rattle.text.specs.Columns.{isNegative, tenthsFrom}
 use Rattle.text.specs.TextLaws.{tenths-text}
 use Rattle.text.proofs.tenths.Statement.{statement}
 use Rattle.text.proofs.tenths.Tie as tie
-use Rattle.text.proofs.tenths.Reads as reads
-use Rattle.text.proofs.tenths.Lts as lts
-use Rattle.text.proofs.is_negative.Reads as is-negative-reads
-use Rattle.text.proofs.magnitude.Reads as magnitude-reads
-use Rattle.text.proofs.tenths_from.Reads as tenths-from-reads
 
--- src/lib.rt:87:9
 magnitude-requires : tie.Need-magnitude-requires
 magnitude-requires c κs = search needs
 
--- src/lib.rt:88:18
 is-negative-requires : tie.Need-is-negative-requires
 is-negative-requires c κs = search needs
 
--- src/lib.rt:88:5
 tenths-from-requires : tie.Need-tenths-from-requires
 tenths-from-requires c κs = search needs
 
--- src/lib.rt:83:1
 returns : tie.Need-returns
 returns c =
-    let b = toZ-ofZ (c .before .before .before .fits .z) in
-    c .tenths-from .ensures ∙ ap₂ tenthsFrom (c .before .before .magnitude .ensures ∙ ap natAbs b) (c .before .is-negative .ensures ∙ ap isNegative b) ∙ tenths-text (c .before .before .before .args .z) (c .before .before .before .pre)
+    let st = c .before .before .before in
+    let b = toZ-ofZ (st .fits .z) in
+    c .tenths-from .ensures
+    ∙ ap₂ tenthsFrom (c .before .before .magnitude .ensures ∙ ap natAbs b) (c .before .is-negative .ensures ∙ ap isNegative b)
+    ∙ tenths-text (st .args .z) (natAbs-le (st .args .z) (st .fits .z .sfits))
 
 pub tenths-spec : {M : Type 1} → statement M
 tenths-spec = tie.close (tie.spec magnitude-requires is-negative-requires tenths-from-requires returns)

@@ -1,13 +1,10 @@
 -- `plan::answers::headroom_by` meets its contract. A signed number that is passed on is read back from its bits.
 use mathlib.Core.Path.{_≡_, _∙_}
-use Prim.Native.Nat.{_^_}
-use native.Mathlib.Omega.{arith}
 use borrow.Author.Needs.{needs}
 use lib.IntN.{pos, _-ℤ_}
 use mir.Syntax.{w32}
 use mir.Val.{toZ, ofZ}
 use mir.Facts.{toZ-ofZ}
-use Rattle.text.specs.ColumnsLaws.{diff-abs}
 use Rattle.plan.proofs.answers.headroom_by.Statement.{statement}
 use Rattle.plan.proofs.answers.headroom_by.Tie as tie
 
@@ -15,11 +12,12 @@ difference-requires : tie.Need-difference-requires
 difference-requires c κs = search needs
 
 -- the difference, as it is handed on
-passed : (c : tie.After-difference) → toZ w32 (ofZ w32 (c .difference .result)) ≡ pos (c .before .args .weight) -ℤ pos (c .before .args .demand)
+passed : (c : tie.After-difference)
+    → toZ w32 (ofZ w32 (c .difference .result)) ≡ pos (c .before .args .weight) -ℤ pos (c .before .args .demand)
 passed c = toZ-ofZ (record { sfits = c .difference .ok }) ∙ c .difference .ensures
 
 tenths-requires : tie.Need-tenths-requires
-tenths-requires c κs = rw (passed c) (diff-abs (c .before .args .weight) (c .before .args .demand) (2 ^ 31) (omega arith) (omega arith))
+tenths-requires c κs = search needs
 
 returns : tie.Need-returns
 returns c = rw (c .tenths .ensures, passed (c .before))
