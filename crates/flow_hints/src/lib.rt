@@ -1,5 +1,6 @@
-// Hints for the flow core: where flow is to be sent first. A wrong one costs time and nothing else, so nothing is
-// promised of them but that they end and stay in bounds: whoever follows a hint tests it.
+// Hints for the flow core: where flow is to be sent first. A wrong one costs time and nothing else, so what a hint
+// leads to is promised nowhere: whoever follows one tests it. The contracts say what each function writes into the
+// hints or the table, or reads from them; of `sweep`, `arc_by` and `spare` only that what they name is in bounds.
 use network::MAX_ARCS;
 use network::MAX_LINKS;
 use network::MAX_NODES;
@@ -14,6 +15,8 @@ use node_set::union;
 ghost use mathlib.Core.Bool.{true};
 ghost use mathlib.Core.Path.{_≡_};
 ghost use Prim.Native.Nat.{_<_, _≤_};
+ghost use Rattle.flow_hints.specs.Hints.{arcOf, arcPut, hasRoom, leadingTo, leadsTo};
+ghost use Rattle.flow_hints.specs.Hints.{sentNoted, shortNoted, shutNoted, startHints, tableFilled, wayNoted};
 ghost use Rattle.network.specs.Limits.{maxNodes, maxArcs};
 ghost use Rattle.network.specs.Network.{networkFits};
 
@@ -34,6 +37,7 @@ const CHAIN: usize = MAX_NODES * MAX_NODES;
 // The hints before anything is sent: every arc has room.
 pub fn start_hints(net: Network) -> [u64; HINTS]
     requires { ⌜ networkFits net ≡ true ⌝ }
+    ensures { λ r. ⌜ r ≡ startHints net ⌝ }
 {
     let m = net.links;
     let mut hints = [0u64; HINTS];
@@ -49,6 +53,7 @@ pub fn start_hints(net: Network) -> [u64; HINTS]
 // arc j, from u to x, as the first of those
 fn put_arc(table: &mut [u16; TABLE], u: usize, x: usize, j: usize)
     requires { ⌜ (u < maxNodes) × (x < maxNodes) × (j < maxArcs) ⌝ }
+    ensures { λ _. ⌜ now (table .exit) ≡ arcPut (now (table .entry)) u x j ⌝ }
 {
     let i = MAX_NODES * u + x;
     table[CHAIN + j] = table[i];
@@ -58,6 +63,7 @@ fn put_arc(table: &mut [u16; TABLE], u: usize, x: usize, j: usize)
 // The arcs by their ends.
 pub fn fill_table(net: Network, table: &mut [u16; TABLE])
     requires { ⌜ networkFits net ≡ true ⌝ }
+    ensures { λ _. ⌜ now (table .exit) ≡ tableFilled net (now (table .entry)) ⌝ }
 {
     let m = net.links;
     for k in 0..m {
@@ -69,7 +75,9 @@ pub fn fill_table(net: Network, table: &mut [u16; TABLE])
 }
 
 // the nodes from which an arc leads to one of `ring`
-fn leading_to(hints: &[u64; HINTS], ring: u64) -> u64 {
+fn leading_to(hints: &[u64; HINTS], ring: u64) -> u64
+    ensures { λ r. ⌜ r ≡ leadingTo (now (hints .entry)) ring ⌝ }
+{
     let mut all: u64 = 0;
     let mut rest = ring;
     while rest > 0 {
@@ -109,6 +117,7 @@ pub fn sweep(hints: &mut [u64; HINTS], s: usize, t: usize) -> usize
 // the nodes of ring l to which an arc leads from u
 pub fn leads(hints: &[u64; HINTS], u: usize, l: usize) -> u64
     requires { ⌜ (u < maxNodes) × (l < maxNodes) ⌝ }
+    ensures { λ r. ⌜ r ≡ leadsTo (now (hints .entry)) u l ⌝ }
 {
     hints[u] & hints[RING + l]
 }
@@ -116,13 +125,14 @@ pub fn leads(hints: &[u64; HINTS], u: usize, l: usize) -> u64
 // whether arc j has room
 fn has_room(residual: &[[u32; 2]; MAX_LINKS], j: usize) -> bool
     requires { ⌜ j < maxArcs ⌝ }
+    ensures { λ r. ⌜ r ≡ hasRoom (now (residual .entry)) j ⌝ }
 {
     residual[j / 2][j % 2] > 0
 }
 
 // the arc that an entry of the table is one more than; some arc where there is none
 fn arc_of(x: u16) -> usize
-    ensures { λ r. ⌜ r < maxArcs ⌝ }
+    ensures { λ r. ⌜ r ≡ arcOf x ⌝ }
 {
     (x as usize + (MAX_ARCS - 1)) % MAX_ARCS
 }
@@ -171,6 +181,7 @@ fn spare(table: &[u16; TABLE], residual: &[[u32; 2]; MAX_LINKS], first: usize) -
 // something was sent from u to x, and may be sent back
 pub fn note_way(hints: &mut [u64; HINTS], u: usize, x: usize)
     requires { ⌜ (u < maxNodes) × (x < maxNodes) ⌝ }
+    ensures { λ _. ⌜ now (hints .exit) ≡ wayNoted (now (hints .entry)) u x ⌝ }
 {
     hints[x] = add(hints[x], u);
     hints[INTO + u] = add(hints[INTO + u], x);
@@ -179,6 +190,7 @@ pub fn note_way(hints: &mut [u64; HINTS], u: usize, x: usize)
 // nothing more can be sent from u to x
 pub fn note_shut(hints: &mut [u64; HINTS], u: usize, x: usize)
     requires { ⌜ (u < maxNodes) × (x < maxNodes) ⌝ }
+    ensures { λ _. ⌜ now (hints .exit) ≡ shutNoted (now (hints .entry)) u x ⌝ }
 {
     hints[u] = remove(hints[u], x);
     hints[INTO + x] = remove(hints[INTO + x], u);
@@ -195,6 +207,7 @@ pub fn note_sent(
     d: u32,
 )
     requires { ⌜ (u < maxNodes) × (x < maxNodes) × (j < maxArcs) ⌝ }
+    ensures { λ _. ⌜ now (hints .exit) ≡ sentNoted (now (hints .entry)) (now (table .entry)) u x j room d ⌝ }
 {
     if d == 0 {
         return;
@@ -211,6 +224,7 @@ pub fn note_sent(
 // d of `want` could be sent on from x, of ring l: where that is less, x has nothing left
 pub fn note_short(hints: &mut [u64; HINTS], x: usize, l: usize, want: u32, d: u32)
     requires { ⌜ (x < maxNodes) × (l < maxNodes) ⌝ }
+    ensures { λ _. ⌜ now (hints .exit) ≡ shortNoted (now (hints .entry)) x l want d ⌝ }
 {
     if d < want {
         hints[RING + l] = remove(hints[RING + l], x);

@@ -1,15 +1,17 @@
--- `fill_table` ends, and stays within the table.
-use borrow.Author.Needs.{needs}
+-- `fill_table` puts in the arcs of the links before k.
 use Prim.Native.Nat.{_-_, _<_, _≤_}
+use mathlib.Core.Path.{_≡_, refl}
+use native.Mathlib.Numerals.{add-one}
 use native.Mathlib.Omega.{arith}
 use Rattle.network.specs.Basics.{at}
 use Rattle.network.specs.Limits.{maxNodes, maxLinks}
 use Rattle.network.specs.NetworkLaws.{link-places}
+use Rattle.flow_hints.specs.Hints.{tableUpTo}
 use Rattle.flow_hints.proofs.fill_table.Statement.{statement}
 use Rattle.flow_hints.proofs.fill_table.Tie as tie
 
 abbrev Inv-loop : tie.InvT-loop
-Inv-loop table₀ net m k₀ table k = k ≤ m
+Inv-loop table₀ net m k₀ table k = (k ≤ m) × (table ≡ tableUpTo net table₀ k)
 
 abbrev μ-loop : tie.MeasureT-loop
 μ-loop table₀ net m k₀ table k = m - k
@@ -21,7 +23,8 @@ places : (c : tie.In-loop Inv-loop μ-loop)
 places c = link-places (c .before .before .args .t1) (c .before .before .pre) (c .before .loop .k) (c .loop-test .taken)
 
 loop-holds : tie.Need-loop-holds Inv-loop μ-loop
-loop-holds c = omega arith
+unfolding tableUpTo
+loop-holds c = (omega arith, refl)
 
 element-copy-out-u : tie.Need-element-copy-out-u Inv-loop μ-loop
 element-copy-out-u c = places c .0
@@ -57,10 +60,17 @@ loop-less : tie.Need-loop-less Inv-loop μ-loop
 loop-less c = omega arith
 
 loop-again : tie.Need-loop-again Inv-loop μ-loop
-loop-again c = omega arith
+unfolding tableUpTo
+loop-again c =
+    let first = c .before .before in
+    let l = first .before .before .before .before .before .loop in
+    (omega arith, rw (add-one, c .put-arc2 .ensures, first .put-arc .ensures, l .inv .1))
 
 returns : tie.Need-returns Inv-loop μ-loop
-returns c = search needs
+returns c =
+    let l = c .before .loop in
+    let e : l .k ≡ c .before .before .args .t1 .links = omega arith in
+    rw e at (l .inv .1)
 
 pub fill-table-spec : {M : Type 1} → statement M
 fill-table-spec =

@@ -1,19 +1,21 @@
--- `leading_to` ends: what is left loses a node in each turn.
-use Prim.Native.Nat.{_-_, _≤_}
+-- `leading_to` gathers what leads to the nodes of a ring, the lowest first: what is left loses a node in each turn.
+use Prim.Native.Nat.{_-_}
+use mathlib.Core.Path.{_≡_}
 use native.Mathlib.Omega.{arith}
 use borrow.Author.Needs.{needs}
 use lib.Bits.{and-le-r}
+use Rattle.flow_hints.specs.HintsLaws.{Gathered, gathered-none, gathered-more, gathered-all}
 use Rattle.flow_hints.proofs.leading_to.Statement.{statement}
 use Rattle.flow_hints.proofs.leading_to.Tie as tie
 
 abbrev Inv-loop : tie.InvT-loop
-Inv-loop hints ring all₀ rest₀ all rest = 0 ≤ rest
+Inv-loop hints ring all₀ rest₀ all rest = Gathered hints ring all rest
 
 abbrev μ-loop : tie.MeasureT-loop
 μ-loop hints ring all₀ rest₀ all rest = rest
 
 loop-holds : tie.Need-loop-holds Inv-loop μ-loop
-loop-holds c = omega arith
+loop-holds c = gathered-none (c .args .hints .now) (c .args .ring)
 
 lowest-requires : tie.Need-lowest-requires Inv-loop μ-loop
 lowest-requires c κs = omega arith
@@ -39,10 +41,17 @@ loop-less c =
     omega (arith, and-le-r (l .rest) (l .rest - 1))
 
 loop-again : tie.Need-loop-again Inv-loop μ-loop
-loop-again c = omega arith
+loop-again c =
+    let l = c .before .before .before .before in
+    rw (c .union .ensures)
+    (gathered-more (l .before .args .hints .now) (l .before .args .ring) (l .loop .all) (l .loop .rest) (c .before .before .lowest .result)
+    (l .loop .inv) (c .before .before .lowest .ensures))
 
 returns : tie.Need-returns Inv-loop μ-loop
-returns c = search needs
+returns c =
+    let l = c .before in
+    let e : l .loop .rest ≡ 0 = omega arith in
+    gathered-all (l .before .args .hints .now) (l .before .args .ring) (l .loop .all) (rw e at (l .loop .inv))
 
 pub leading-to-spec : {M : Type 1} → statement M
 leading-to-spec =

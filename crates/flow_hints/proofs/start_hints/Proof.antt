@@ -1,15 +1,17 @@
--- `start_hints` ends, and stays within the hints.
-use borrow.Author.Needs.{needs}
+-- `start_hints` notes a way each way along the links before k.
 use Prim.Native.Nat.{_-_, _<_, _≤_}
+use mathlib.Core.Path.{_≡_, refl}
+use native.Mathlib.Numerals.{add-one}
 use native.Mathlib.Omega.{arith}
 use Rattle.network.specs.Basics.{at}
 use Rattle.network.specs.Limits.{maxNodes, maxLinks}
 use Rattle.network.specs.NetworkLaws.{link-places}
+use Rattle.flow_hints.specs.Hints.{hintsUpTo}
 use Rattle.flow_hints.proofs.start_hints.Statement.{statement}
 use Rattle.flow_hints.proofs.start_hints.Tie as tie
 
 abbrev Inv-loop : tie.InvT-loop
-Inv-loop net m hints₀ k₀ hints k = k ≤ m
+Inv-loop net m hints₀ k₀ hints k = (k ≤ m) × (hints ≡ hintsUpTo net k)
 
 abbrev μ-loop : tie.MeasureT-loop
 μ-loop net m hints₀ k₀ hints k = m - k
@@ -21,7 +23,8 @@ places : (c : tie.In-loop Inv-loop μ-loop)
 places c = link-places (c .before .before .args .t1) (c .before .before .pre) (c .before .loop .k) (c .loop-test .taken)
 
 loop-holds : tie.Need-loop-holds Inv-loop μ-loop
-loop-holds c = omega arith
+unfolding hintsUpTo
+loop-holds c = (omega arith, refl)
 
 element-copy-out-u : tie.Need-element-copy-out-u Inv-loop μ-loop
 element-copy-out-u c = places c .0
@@ -36,10 +39,10 @@ cast-v : tie.Need-cast-v Inv-loop μ-loop
 cast-v c = omega (arith, places (c .before .before))
 
 note-way-requires : tie.Need-note-way-requires Inv-loop μ-loop
-note-way-requires c κs = (places (c .before .before .before) .1, places (c .before .before .before) .2)
+note-way-requires c κs = omega (arith, places (c .before .before .before))
 
 note-way-requires-2 : tie.Need-note-way-requires-2 Inv-loop μ-loop
-note-way-requires-2 c κs = (places (c .before .before .before .before .before) .2, places (c .before .before .before .before .before) .1)
+note-way-requires-2 c κs = omega (arith, places (c .before .before .before .before .before))
 
 add-k : tie.Need-add-k Inv-loop μ-loop
 add-k c = omega (arith, places (c .before .before .before .before .before .before))
@@ -48,10 +51,17 @@ loop-less : tie.Need-loop-less Inv-loop μ-loop
 loop-less c = omega arith
 
 loop-again : tie.Need-loop-again Inv-loop μ-loop
-loop-again c = omega arith
+unfolding hintsUpTo
+loop-again c =
+    let first = c .before .before in
+    let l = first .before .before .before .before .before .loop in
+    (omega arith, rw (add-one, c .note-way2 .ensures, first .note-way .ensures, l .inv .1))
 
 returns : tie.Need-returns Inv-loop μ-loop
-returns c = search needs
+returns c =
+    let l = c .before .loop in
+    let e : l .k ≡ c .before .before .args .t1 .links = omega arith in
+    rw e at (l .inv .1)
 
 pub start-hints-spec : {M : Type 1} → statement M
 start-hints-spec =

@@ -1,0 +1,6 @@
+-- definitions
+pub mod Hints
+-- laws for the proofs of the code
+pub mod HintsLaws
+-- worked examples
+pub mod Examples
