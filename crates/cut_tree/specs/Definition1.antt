@@ -1,9 +1,12 @@
--- Definition 1 of source document 001: what a cut tree T of a network G is. It is said here of every network, zero capacities and unconnected ones
--- included; with T as a network of its own, its cuts and flows are those of any network.
--- "A tree having the same set of vertices V and an edge set F with a capacity function c' having the following two properties:
--- (a) Equivalent flow tree: for any pair of vertices s and t, f_{s,t} in G is equal to the smallest capacity (with c') of the edges on the path
--- between s and t in T, i.e., to the value of the maximum flow between s and t in T;
--- (b) Cut property: if a proper subset of V is a minimum cut separating s and t in T, it is also a minimum cut separating s and t in G."
+-- Definition 1 of source document 001: what a cut tree T of a network G is. It is said here of every network, zero
+-- capacities and unconnected ones included; with T as a network of its own, its cuts and flows are those of any
+-- network.
+-- "A tree having the same set of vertices V and an edge set F with a capacity function c' having the following two
+-- properties: (a) Equivalent flow tree: for any pair of vertices s and t, f_{s,t} in G is equal to the smallest
+-- capacity (with c') of the edges on the path between s and t in T, i.e., to the value of the maximum flow between s
+-- and t in T;
+-- (b) Cut property: if a proper subset of V is a minimum cut separating s and t in T, it is also a minimum cut
+-- separating s and t in G."
 use Prim.Native.Nat.{ℕ, suc, _-_, _≤_, _<_}
 use mathlib.Core.Path.{_≡_}
 use mathlib.Core.Logic.{_≢_}
@@ -12,10 +15,10 @@ use mathlib.Core.List.{List}
 use lib.IntN.{ℤ}
 use Rattle.min_cut.specs.Cut.{Net, Side, cutValue, MinCut}
 use Rattle.min_cut.specs.Lawful.{MaximumFlow}
-use Rattle.network.specs.Basics.{at}
+use Rattle.base.specs.Basics.{at, among}
 use Rattle.network.specs.Network.{graph, valueOf}
 use Rattle.network.specs.declared.Network.{Network}
-use Rattle.cut_tree.specs.Path.{reaches, among, path, lightestOn, under}
+use Rattle.cut_tree.specs.Path.{reaches, path, lightestOn, under}
 use Rattle.cut_tree.specs.declared.Tree.{Tree}
 
 -- T: the n - 1 tree edges as links, one from each node but 0 to its parent
@@ -46,7 +49,8 @@ pub record CutTree (net : Network) (tree : Tree) : Type 0 where
   -- (a)
   pub equivalent-flow : (s t : ℕ) → s < net .nodes → t < net .nodes → s ≢ t → EquivalentFlow net tree s t
   -- (b), of every side; one that holds t and not s is such a cut of t and s
-  pub cut-property : (s t : ℕ) → s < net .nodes → t < net .nodes → s ≢ t → (X : Side) → MinCut (treeNet (net .nodes) tree) s t X → MinCut (graph net) s t X
+  pub cut-property : (s t : ℕ) → s < net .nodes → t < net .nodes → s ≢ t → (X : Side)
+      → MinCut (treeNet (net .nodes) tree) s t X → MinCut (graph net) s t X
   -- more: each node's subtree is a minimum cut between the node and its parent, and its value the weight
   pub subtree : (v : ℕ) → 0 < v → v < net .nodes → MinCut (graph net) v (at (tree .parent) v) (under (tree .parent) v)
   pub weight : (v : ℕ) → 0 < v → v < net .nodes → at (tree .weight) v ≡ valueOf net (under (tree .parent) v)

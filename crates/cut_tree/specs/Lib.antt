@@ -1,25 +1,17 @@
+-- definitions: Gusfield's rule, the rebuild with kept steps, the pair's path and answer, Definition 1
 pub mod Rule
 pub mod Rebuild
 pub mod Path
-pub mod QueryParts
-pub mod ClimbLaws
-pub mod QueryLaws
-pub mod SideLaws
-pub mod StepLaws
-pub mod RebuildParts
-pub mod TakingLaws
-pub mod LoopLaws
-pub mod RuleLaws
-pub mod KeepLaws
-pub mod RebuildLaws
-pub mod RuleTree
-pub mod Depth
-pub mod RuleShape
 pub mod Definition1
-pub mod MemberLaws
-pub mod PathLaws
-pub mod PairLaws
-pub mod TreeValues
-pub mod Definition1Proof
-pub mod AnswerLaws
-pub mod Examples
+pub mod Answer
+-- what is shown: the rule makes a cut tree, the keep lemma, a rebuild is the rule, an answer is a minimum cut
+pub mod RuleCutTree
+pub mod KeepLemma
+pub mod Rebuilds
+pub mod AnswerMinimum
+-- what contracts of the code cite
+pub mod code
+-- worked examples
+pub mod examples
+-- lemmas
+pub mod laws

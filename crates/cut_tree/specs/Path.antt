@@ -1,20 +1,22 @@
--- "A pair call for (s, t) gives the lightest edge on the tree path, the first of equals met from s." An edge is named by the node below it.
-use Prim.Native.Nat.{ℕ, zero, suc}
-use mathlib.Core.Bool.{Bool, true, false, not, _&&_}
+-- "A pair call for (s, t) gives the lightest edge on the tree path, the first of equals met from s." An edge is named
+-- by the node below it.
+use Prim.Native.Nat.{ℕ, zero, suc, _-_}
+use mathlib.Core.Bool.{Bool, true, not, _&&_}
 use mathlib.Core.List.{List, [], _∷_, _++_, reverse}
 use lib.Dec.{ltb, eqb}
-use lib.Count.{ones}
-use Rattle.min_cut.specs.Cut.{differ}
-use Rattle.min_cut.specs.Word.{word}
-use Rattle.network.specs.Basics.{pick, at}
-use Rattle.network.specs.Checks.{Row, row, chain, accepted}
+use Rattle.base.specs.Word.{word}
+use Rattle.node_set.specs.Set.{size}
+use Rattle.network.specs.Refusals.{noSuchNode, sameNode}
+use Rattle.base.specs.Basics.{pick, at, differ, among}
+use Rattle.base.specs.Checks.{Row, row, chain, accepted}
+use Rattle.network.specs.Limits.{maxNodes}
 use Rattle.cut_tree.specs.declared.Tree.{Tree}
 use Rattle.cut_tree.specs.declared.PairAnswer.{PairAnswer}
 use Rattle.cut_tree.specs.declared.PairAnswer.the-variants.{Refused, Found}
 
--- the most parents on the way to node 0
+-- the most parents on the way to node 0: all other nodes
 abbrev pub maxClimb : ℕ
-maxClimb = 63
+maxClimb = maxNodes - 1
 
 -- node i reaches node 0 by at most this many parents
 unfoldable pub reaches : List ℕ → ℕ → ℕ → Bool
@@ -25,11 +27,6 @@ reaches parent (suc left) i = let further = reaches parent left (at parent i) in
 unfoldable pub climb : List ℕ → ℕ → ℕ → List ℕ
 climb parent zero i = []
 climb parent (suc left) i = let further = climb parent left (at parent i) in pick (eqb i 0) [] (i ∷ further)
-
--- whether v is one of xs
-unfoldable pub among : ℕ → List ℕ → Bool
-among v [] = false
-among v (x ∷ xs) = pick (eqb v x) true (among v xs)
 
 -- those of xs that are not among ys
 unfoldable pub without : List ℕ → List ℕ → List ℕ
@@ -63,11 +60,11 @@ unfoldable pub answer : Tree → ℕ → ℕ → ℕ → PairAnswer
 answer tree n s t =
     let v = lightestOn tree s t in
     let side = sideOf (tree .parent) n v s in
-    Found (at (tree .weight) v) v side (ones side)
+    Found (at (tree .weight) v) v side (size n side)
 
 -- the checks of a pair, and those that come after them
 abbrev pub pairRows : ℕ → ℕ → ℕ → List Row → List Row
-pairRows n s t later = row (not (ltb s n && ltb t n)) 14 ∷ row (eqb s t) 15 ∷ later
+pairRows n s t later = row (not (ltb s n && ltb t n)) noSuchNode ∷ row (eqb s t) sameNode ∷ later
 
 unfoldable pub queryOf : Tree → ℕ → ℕ → ℕ → PairAnswer
 queryOf tree n s t = accepted (chain (pairRows n s t [])) (answer tree n s t) Refused

@@ -1,11 +1,11 @@
--- "The tree" of document 01: Gusfield's rule, by a function that gives the cut of a step.
+-- Gusfield's rule (docs/SCOPE.md, 4), by a function that gives the cut of a step.
 use Prim.Native.Nat.{ℕ, zero, suc, _+_, _-_}
 use mathlib.Core.Bool.{Bool, true, false, _&&_}
 use mathlib.Core.List.{List, [], _∷_}
 use lib.ListN.{set, replicate}
 use lib.Dec.{eqb}
-use Rattle.min_cut.specs.Word.{holds}
-use Rattle.network.specs.Basics.{pick, at}
+use Rattle.base.specs.Word.{holds}
+use Rattle.base.specs.Basics.{pick, at}
 use Rattle.network.specs.Limits.{maxNodes}
 use Rattle.network.specs.Network.{leastSide, minCutValue}
 use Rattle.network.specs.declared.Network.{Network}
@@ -40,7 +40,11 @@ placed true tree s t X w =
 
 -- pivot, X and w are recorded as step s
 abbrev pub recorded : Steps → (s t X w : ℕ) → Steps
-recorded steps s t X w = record { pivot = set (steps .pivot) s t; side = set (steps .side) s X; value = set (steps .value) s w }
+recorded steps s t X w = record {
+  pivot = set (steps .pivot) s t;
+  side = set (steps .side) s X;
+  value = set (steps .value) s w;
+}
 
 -- step s, of pivot t, by the cut x
 unfoldable pub stepped : Built → ℕ → ℕ → StepCut → Built

@@ -1,4 +1,4 @@
-// The steps that can be kept as one capacity changes (document 01, "The plan and its changes"), and a step's cut: kept,
+// The steps that can be kept as one capacity changes (docs/SCOPE.md, 5), and a step's cut: kept,
 // or worked out.
 use crate::StepCut;
 use flow_hints::HINTS;
@@ -10,10 +10,10 @@ use network::MAX_NODES;
 use node_set::contains;
 ghost use mathlib.Core.Path.{_≡_};
 ghost use Prim.Native.Nat.{_-_, _≤_};
-ghost use Rattle.max_flow.specs.Residuals.{fullResidual};
-ghost use Rattle.max_flow.specs.Search.{Ready};
+ghost use Rattle.max_flow.specs.code.Residuals.{fullResidual};
+ghost use Rattle.max_flow.specs.code.Search.{Ready};
 ghost use Rattle.network.specs.declared.Network.{Network};
-ghost use Rattle.cut_tree.specs.RebuildParts.{OfNodes, crossed, survived, keptBy, keptCut, taken};
+ghost use Rattle.cut_tree.specs.code.RebuildParts.{OfNodes, crossed, survived, stepKept, keptCut, taken};
 
 // A link between a and b whose capacity goes from `old` to `new`.
 pub struct Change {
@@ -33,7 +33,7 @@ pub struct OldStep {
 // Whether the side of a step crosses the link.
 fn crosses(h: Change, o: OldStep) -> bool
     requires { ⌜ OfNodes h ⌝ }
-    ensures { λ r. ⌜ r ≡ crossed h o ⌝ }
+    ensures { λ r. ⌜ r ≡ crossed h (o .side) ⌝ }
 {
     contains(o.side, h.a) != contains(o.side, h.b)
 }
@@ -42,7 +42,7 @@ fn crosses(h: Change, o: OldStep) -> bool
 // link; or it falls, the side crosses the link and its value is at least the fall.
 fn survives(h: Change, o: OldStep) -> bool
     requires { ⌜ OfNodes h ⌝ }
-    ensures { λ r. ⌜ r ≡ survived h o ⌝ }
+    ensures { λ r. ⌜ r ≡ survived h (o .side) (o .value) ⌝ }
 {
     if h.old == h.new {
         return true;
@@ -60,7 +60,7 @@ fn survives(h: Change, o: OldStep) -> bool
 // Whether a step, whose pivot is now t, is kept.
 fn keeps(h: Change, o: OldStep, t: usize) -> bool
     requires { ⌜ OfNodes h ⌝ }
-    ensures { λ r. ⌜ r ≡ keptBy h o t ⌝ }
+    ensures { λ r. ⌜ r ≡ stepKept h o t ⌝ }
 {
     if o.pivot != t {
         return false;

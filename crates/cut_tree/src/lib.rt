@@ -1,4 +1,5 @@
-// Cut trees (document 01, "The tree" and "The plan and its changes"): built by Gusfield's rule, worked out again after a change, asked for a pair.
+// Cut trees (docs/SCOPE.md, 4 and 5): built by Gusfield's rule, worked out again after
+// a change, asked for a pair.
 mod keep; // which steps are kept, and a step's cut
 mod path; // the pair query, and whether a node reaches node 0
 mod rule; // one step of the rule
@@ -40,8 +41,8 @@ pub struct StepCut {
     pub anew: u32,
 }
 
-// What a pair call finds: a refusal number; or the lightest tree edge between two nodes, by its weight and the node below it,
-// the side that holds the first node once that edge is cut, and how many nodes that side has.
+// What a pair call finds: a refusal number; or the lightest tree edge between two nodes, by its weight and the node
+// below it, the side that holds the first node once that edge is cut, and how many nodes that side has.
 pub enum PairAnswer {
     Refused(u32),
     Found {

@@ -1,19 +1,23 @@
-// The pair query (document 01, "Pair, flow, writing"). The path is found by recursion along parents with a count that falls, and so is
-// whether every node reaches node 0.
+// The pair query (docs/SCOPE.md, 6). The path is found by recursion along parents with a count that
+// falls, and so is whether every node reaches node 0.
 use crate::PairAnswer;
 use crate::Tree;
 use network::MAX_NODES;
+use network::NO_SUCH_NODE;
+use network::SAME_NODE;
 ghost use mathlib.Core.Path.{_≡_};
 ghost use Prim.Native.Nat.{_<_};
 ghost use mathlib.Core.List.{reverse};
-ghost use Rattle.min_cut.specs.Word.{word};
+ghost use Rattle.base.specs.Word.{word};
 ghost use Rattle.network.specs.Limits.{maxNodes};
-ghost use Rattle.cut_tree.specs.Path.{maxClimb, reaches, climb, among, under, lightestOn, sideOf, queryOf};
-ghost use Rattle.cut_tree.specs.QueryParts.{Inside, Climbs, Known, climbTo, addedAll, addedIf, lighter, lightestFrom};
-ghost use Rattle.cut_tree.specs.QueryParts.{Pair};
+ghost use Rattle.cut_tree.specs.Path.{maxClimb, reaches, climb, under, lightestOn, sideOf, queryOf};
+ghost use Rattle.base.specs.Basics.{among};
+ghost use Rattle.cut_tree.specs.code.QueryParts.{Inside, Climbs, Known, climbTo, addedAll, addedIf, lighter};
+ghost use Rattle.cut_tree.specs.code.QueryParts.{lightestFrom};
+ghost use Rattle.cut_tree.specs.code.QueryParts.{Pair};
 
-// The most parents on the way to node 0.
-pub const MAX_CLIMB: usize = 63;
+// The most parents on the way to node 0: all other nodes.
+pub const MAX_CLIMB: usize = MAX_NODES - 1;
 
 // Whether node i reaches node 0 by at most `left` parents.
 pub fn reaches_root(parent: &[u8; MAX_NODES], left: usize, i: usize) -> bool
@@ -94,7 +98,8 @@ fn lightest_down(
     best: usize,
 ) -> usize
     requires { ⌜ Inside (now parent) i × (best < maxNodes) ⌝ }
-    ensures { λ r. ⌜ r ≡ lightestFrom (now (weight .entry)) best (reverse (climbTo stop (now (parent .entry)) left i)) ⌝ }
+    ensures { λ r. ⌜ r ≡ lightestFrom (now (weight .entry)) best
+        (reverse (climbTo stop (now (parent .entry)) left i)) ⌝ }
 {
     if i == 0 {
         return best;
@@ -192,13 +197,13 @@ pub fn query(tree: Tree, n: usize, s: usize, t: usize) -> PairAnswer
     ensures { λ r. ⌜ r ≡ queryOf tree n s t ⌝ }
 {
     if n <= s {
-        return PairAnswer::Refused(14);
+        return PairAnswer::Refused(NO_SUCH_NODE);
     }
     if n <= t {
-        return PairAnswer::Refused(14);
+        return PairAnswer::Refused(NO_SUCH_NODE);
     }
     if s == t {
-        return PairAnswer::Refused(15);
+        return PairAnswer::Refused(SAME_NODE);
     }
     let parent = tree.parent;
     let weight = tree.weight;

@@ -1,12 +1,12 @@
-// One step of Gusfield's rule (document 01, "The tree").
+// One step of Gusfield's rule (docs/SCOPE.md, 4).
 use network::MAX_NODES;
 ghost use mathlib.Core.Path.{_≡_};
 ghost use Prim.Native.Nat.{_<_};
-ghost use Rattle.min_cut.specs.Word.{holds};
-ghost use Rattle.network.specs.Basics.{at};
+ghost use Rattle.base.specs.Word.{holds};
+ghost use Rattle.base.specs.Basics.{at};
 ghost use Rattle.network.specs.Limits.{maxNodes};
 ghost use Rattle.cut_tree.specs.Rule.{moved};
-ghost use Rattle.cut_tree.specs.RebuildParts.{movedOne, placedParents, placedWeights};
+ghost use Rattle.cut_tree.specs.code.RebuildParts.{movedOne, placedParents, placedWeights};
 
 // The parent p of a node of the step's side: s in place of t.
 fn moved_one(p: u8, s: u8, t: u8) -> u8

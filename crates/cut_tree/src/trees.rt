@@ -15,9 +15,10 @@ use network::Network;
 use network::incidence_of;
 ghost use mathlib.Core.Bool.{true};
 ghost use mathlib.Core.Path.{_≡_};
+ghost use Prim.Native.Nat.{_-_};
 ghost use Rattle.network.specs.Network.{networkFits};
-ghost use Rattle.cut_tree.specs.Rebuild.{rebuilt};
-ghost use Rattle.cut_tree.specs.RebuildParts.{OfNodes, Changes, builtOf, workedOut};
+ghost use Rattle.cut_tree.specs.Rebuild.{rebuiltBy, rebuilt};
+ghost use Rattle.cut_tree.specs.code.RebuildParts.{OfNodes, Changes, builtOf, survived};
 ghost use Rattle.cut_tree.specs.Rule.{rule};
 
 // A pivot that is no node.
@@ -53,7 +54,7 @@ fn built(
 // The tree of the rule on `net`, with the recorded steps that are kept. What the cuts share is made once.
 fn worked_out(net: Network, steps: Steps, h: Change) -> Built
     requires { ⌜ (networkFits net ≡ true) × OfNodes h ⌝ }
-    ensures { λ r. ⌜ r ≡ workedOut net steps h ⌝ }
+    ensures { λ r. ⌜ r ≡ rebuiltBy net (survived h) (h .old - h .new) steps ⌝ }
 {
     let arcs = incidence_of(net);
     let first = arcs.first;

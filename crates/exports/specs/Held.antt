@@ -5,17 +5,17 @@ use mathlib.Core.Path.{_≡_, refl, sym, ap, subst, _∙_}
 use mathlib.Core.List.{List, [], _∷_, _++_}
 use lib.ListN.{length, take}
 use lib.IntN.{pos, _-ℤ_}
-use Rattle.network.specs.Checks.{accepted}
+use Rattle.base.specs.Checks.{accepted}
 use Rattle.text.specs.Text.{textOf}
 use Rattle.cut_tree.specs.Path.{answer, weightOf}
 use Rattle.cut_tree.specs.declared.PairAnswer.the-variants.{Refused}
-use Rattle.plan.specs.AnswersLaws.{headroom-found}
+use Rattle.plan.specs.laws.AnswersLaws.{headroom-found}
 use Rattle.plan.specs.Calls.{openOf, pairNumber, pairOf, writeOf, writtenTo}
-use Rattle.plan.specs.History.{Claims, Demand3, Opens, RightPair}
-use Rattle.plan.specs.Machine.{begin, state}
-use Rattle.plan.specs.Numbers.{headroom-accepted, write-accepted}
-use Rattle.plan.specs.Run.{Event, Run, callsOf, left, planAfter}
-use Rattle.plan.specs.Whole.{demand-3}
+use Rattle.history.specs.History.{Claims, Demand3, Opens, RightPair}
+use Rattle.history.specs.Machine.{begin, state}
+use Rattle.plan.specs.Numbers.{headroom-numbered, write-numbered}
+use Rattle.history.specs.Run.{Event, Run, callsOf, left, planAfter}
+use Rattle.history.specs.Whole.{demand-3}
 use Rattle.plan.specs.declared.HeadroomReply.{HeadroomReply}
 use Rattle.plan.specs.declared.Opening.{Opening}
 use Rattle.plan.specs.declared.Plan.{Plan}
@@ -89,11 +89,11 @@ module _ (file : List ℕ) (place : ℕ) (plan : Plan) (opened : Opened file 0 p
   unfolding answer
   held-headroom s t demand reply q (e, r, same) =
       let p = holding plan ms in
-      let (_, ((sl, tl), (d, most))) = headroom-accepted p s t demand .0 (sym e) in
+      let (_, ((sl, tl), (d, most))) = headroom-numbered p s t demand .accepted .0 (sym e) in
       let right = held-demand-3 .pairs s t sl tl d in
-      let found = headroom-found p s t _ _ _ _ (right .lightest) demand most in
+      let found = headroom-found p s t _ _ _ _ (right .by-rule) demand most in
       let value = ap (λ (h : HeadroomReply). h .value) (r ∙ found) in (
-        value ∙ ap (λ (w : ℕ). pos w -ℤ pos demand) (sym (ap weightOf (right .lightest))),
+        value ∙ ap (λ (w : ℕ). pos w -ℤ pos demand) (sym (ap weightOf (right .by-rule))),
         ap (λ (h : HeadroomReply). h .text) (r ∙ found) ∙ ap textOf (sym value),
         right,
       )
@@ -103,7 +103,7 @@ module _ (file : List ℕ) (place : ℕ) (plan : Plan) (opened : Opened file 0 p
       → Promise (holding plan ms) (pamzolit-write before 0 used behind q) → Opens (take used behind) (holding plan ms)
   held-write before used behind q (e, w, same) =
       let p = holding plan ms in
-      let long = write-accepted p before .0 (sym (ap (λ (r : Written). r .number) e)) .1 in
+      let long = write-numbered p before .accepted .0 (sym (ap (λ (r : Written). r .number) e)) .1 in
       let o = held-demand-3 .reopened before long .1 in
       let is : used ≡ writeOf p (length before) .length = ap (λ (r : Written). r .length) e in
       let whole = subst (λ (n : ℕ). Opens (take n (writtenTo p before)) p) (sym is) o in

@@ -1,10 +1,8 @@
--- a pair's answer as numbers
+-- definitions: a pair's answer as numbers; calls that a caller made on a plan in its own memory, and what is promised
 pub mod PairReply
--- calls that a caller made on a plan in its own memory, and what is promised of them
 pub mod Made
--- demand 3 of such a plan
+-- what is shown: demand 3 of such a plan; 19 for memory that is no sound plan
 pub mod Held
--- 19: memory that is no sound plan
 pub mod Unsound
 -- worked examples
-pub mod Examples
+pub mod examples

@@ -6,8 +6,8 @@ use mathlib.Core.List.{List, [], _∷_, _++_}
 use lib.ListN.{length}
 use lib.IntN.{ℤ}
 use Rattle.plan.specs.Calls.{openOf, changeOf, undoOf, pairOf, Flowed, headroomOf, writeOf, writtenTo}
-use Rattle.plan.specs.Machine.{change, undo, pair, flow}
-use Rattle.plan.specs.Run.{Event}
+use Rattle.history.specs.Machine.{pair, flow, change, undo, ask}
+use Rattle.history.specs.Run.{Event}
 use Rattle.plan.specs.declared.HeadroomReply.{HeadroomReply}
 use Rattle.plan.specs.declared.Plan.{Plan}
 use Rattle.exports.specs.PairReply.{pairReply, answerIn}
@@ -76,9 +76,12 @@ eventsIn (pamzolit-change link capacity number count plan) =
     record { call = change link capacity; reply = record { number = number; count = count; plan = plan } } ∷ []
 eventsIn (pamzolit-undo number count plan) =
     record { call = undo; reply = record { number = number; count = count; plan = plan } } ∷ []
-eventsIn (pamzolit-pair s t number reply plan) = record { call = pair s t; reply = answerIn reply } ∷ []
+eventsIn (pamzolit-pair s t number reply plan) = record { call = ask (pair s t); reply = answerIn reply } ∷ []
 eventsIn (pamzolit-flow s t before number behind plan) =
-    record { call = flow s t (length before); reply = record { number = number; lent = before; filled = behind } } ∷ []
+    record {
+      call = ask (flow s t (length before));
+      reply = record { number = number; before = before; behind = behind };
+    } ∷ []
 eventsIn (pamzolit-headroom s t demand number reply plan) = []
 eventsIn (pamzolit-write before number used behind plan) = []
 

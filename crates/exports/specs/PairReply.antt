@@ -1,5 +1,5 @@
 -- A pair's answer as the numbers that C gets, and back.
-use Rattle.network.specs.Checks.{accepted}
+use Rattle.base.specs.Checks.{accepted}
 use Rattle.cut_tree.specs.declared.PairAnswer.{PairAnswer}
 use Rattle.cut_tree.specs.declared.PairAnswer.the-variants.{Refused, Found}
 use Rattle.exports.specs.declared.held.PairReply.{PairReply}

@@ -1,6 +1,6 @@
--- definitions
-pub mod Hints
--- laws for the proofs of the code
-pub mod HintsLaws
+-- what contracts of the code cite: what each function does to the arrays
+pub mod code
 -- worked examples
-pub mod Examples
+pub mod examples
+-- lemmas
+pub mod laws

@@ -15,8 +15,9 @@ use node_set::union;
 ghost use mathlib.Core.Bool.{true};
 ghost use mathlib.Core.Path.{_≡_};
 ghost use Prim.Native.Nat.{_<_, _≤_};
-ghost use Rattle.flow_hints.specs.Hints.{arcOf, arcPut, hasRoom, leadingTo, leadsTo};
-ghost use Rattle.flow_hints.specs.Hints.{sentNoted, shortNoted, shutNoted, startHints, tableFilled, wayNoted};
+ghost use Rattle.flow_hints.specs.code.Hints.{arcOf, arcPut, hasRoom, leadingTo, leadsTo};
+ghost use Rattle.flow_hints.specs.code.Hints.{sentNoted, shortNoted, shutNoted, startHints, tableFilled};
+ghost use Rattle.flow_hints.specs.code.Hints.{wayNoted};
 ghost use Rattle.network.specs.Limits.{maxNodes, maxArcs};
 ghost use Rattle.network.specs.Network.{networkFits};
 
@@ -123,7 +124,7 @@ pub fn leads(hints: &[u64; HINTS], u: usize, l: usize) -> u64
 }
 
 // whether arc j has room
-fn has_room(residual: &[[u32; 2]; MAX_LINKS], j: usize) -> bool
+fn has_spare(residual: &[[u32; 2]; MAX_LINKS], j: usize) -> bool
     requires { ⌜ j < maxArcs ⌝ }
     ensures { λ r. ⌜ r ≡ hasRoom (now (residual .entry)) j ⌝ }
 {
@@ -151,17 +152,17 @@ pub fn arc_by(
     ensures { λ r. ⌜ r < maxArcs ⌝ }
 {
     if x == last_node {
-        return spare(table, residual, last_arc);
+        return other_arc(table, residual, last_arc);
     }
     let j = arc_of(table[MAX_NODES * u + x]);
-    if has_room(residual, j) {
+    if has_spare(residual, j) {
         return j;
     }
-    spare(table, residual, j)
+    other_arc(table, residual, j)
 }
 
 // another arc with the ends of j that has room; or one that has none
-fn spare(table: &[u16; TABLE], residual: &[[u32; 2]; MAX_LINKS], first: usize) -> usize
+fn other_arc(table: &[u16; TABLE], residual: &[[u32; 2]; MAX_LINKS], first: usize) -> usize
     requires { ⌜ first < maxArcs ⌝ }
     ensures { λ r. ⌜ r < maxArcs ⌝ }
 {
@@ -171,7 +172,7 @@ fn spare(table: &[u16; TABLE], residual: &[[u32; 2]; MAX_LINKS], first: usize) -
             return j;
         }
         j = arc_of(table[CHAIN + j]);
-        if has_room(residual, j) {
+        if has_spare(residual, j) {
             return j;
         }
     }
@@ -196,24 +197,24 @@ pub fn note_shut(hints: &mut [u64; HINTS], u: usize, x: usize)
     hints[INTO + x] = remove(hints[INTO + x], u);
 }
 
-// d was sent from u to x along arc j, which had `room`
+// d was sent from u to x along arc j, which had `spare` left
 pub fn note_sent(
     hints: &mut [u64; HINTS],
     table: &[u16; TABLE],
     u: usize,
     x: usize,
     j: usize,
-    room: u32,
+    spare: u32,
     d: u32,
 )
     requires { ⌜ (u < maxNodes) × (x < maxNodes) × (j < maxArcs) ⌝ }
-    ensures { λ _. ⌜ now (hints .exit) ≡ sentNoted (now (hints .entry)) (now (table .entry)) u x j room d ⌝ }
+    ensures { λ _. ⌜ now (hints .exit) ≡ sentNoted (now (hints .entry)) (now (table .entry)) u x j spare d ⌝ }
 {
     if d == 0 {
         return;
     }
     note_way(hints, u, x);
-    if d != room {
+    if d != spare {
         return;
     }
     if table[CHAIN + j] == 0 {

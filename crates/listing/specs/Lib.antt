@@ -1,13 +1,9 @@
--- definitions: what a reader must believe
+-- definitions: what is printed for a file
 pub mod Listing
-pub mod Puts
--- what is shown: the lines of an accepted file are right; 1,284 bytes are enough; worked examples
+-- what is shown: the lines of an accepted file are right; a file's front is enough
 pub mod Shown
-pub mod FrontLaws
-pub mod Examples
--- laws for the proofs of the code
-pub mod PutsLaws
-pub mod LineLaws
-pub mod LinesLaws
-pub mod LengthLaws
-pub mod ListedLaws
+pub mod Front
+-- worked examples
+pub mod examples
+-- lemmas
+pub mod laws

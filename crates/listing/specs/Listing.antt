@@ -1,15 +1,15 @@
--- "Program `pairs`" of document 01: what is printed for a file.
-use Prim.Native.Nat.{ℕ, zero, suc, _+_, _-_, _^_}
+-- The program `pairs` (docs/SCOPE.md, 6): what is printed for a file.
+use Prim.Native.Nat.{ℕ, zero, suc, _+_, _-_, _*_, _/_, _^_}
 use mathlib.Core.List.{List, [], _∷_, _++_}
 use lib.ListN.{length}
 use lib.Seq.{sets}
 use lib.Dec.{ltb}
-use Rattle.network.specs.Basics.{at, pick}
-use Rattle.network.specs.Checks.{accepted}
-use Rattle.network_file.specs.Writing.{maxFile}
+use Rattle.base.specs.Basics.{at, pick}
+use Rattle.base.specs.Checks.{accepted}
+use Rattle.network.specs.Limits.{maxNodes}
 use Rattle.cut_tree.specs.Path.{weightOf, sideIn}
 use Rattle.cut_tree.specs.declared.Tree.{Tree}
-use Rattle.text.specs.Text.{decimal}
+use Rattle.text.specs.Text.{decimal, digitsOf}
 use Rattle.plan.specs.Calls.{openOf, pairOf}
 use Rattle.plan.specs.declared.Plan.{Plan}
 
@@ -24,12 +24,12 @@ abbrev pub refusedWord : List ℕ
 refusedWord = 114 ∷ 101 ∷ 102 ∷ 117 ∷ 115 ∷ 101 ∷ 100 ∷ []
 
 -- a line: a word and numbers, one space before each number, a line feed after the last
-unfoldable pub numbersOf : List ℕ → List ℕ
-numbersOf [] = 10 ∷ []
-numbersOf (n ∷ ns) = 32 ∷ (decimal n ++ numbersOf ns)
+unfoldable pub decimalsOf : List ℕ → List ℕ
+decimalsOf [] = 10 ∷ []
+decimalsOf (n ∷ ns) = 32 ∷ (decimal n ++ decimalsOf ns)
 
 abbrev pub lineOf : List ℕ → List ℕ → List ℕ
-lineOf word ns = word ++ numbersOf ns
+lineOf word ns = word ++ decimalsOf ns
 
 -- node, parent, weight
 unfoldable pub treeLine : Tree → ℕ → List ℕ
@@ -64,14 +64,19 @@ refusedLine number place = lineOf refusedWord (number ∷ place ∷ [])
 unfoldable pub listingOf : List ℕ → List ℕ
 listingOf file = let o = openOf file in accepted (o .number) (planLines (o .plan)) (λ e. refusedLine e (o .place))
 
--- "At most 1,284 bytes are read": so many are listed as the whole file is
-abbrev pub maxRead : ℕ
-maxRead = maxFile + 1
-
 -- ---- written into a lent buffer
--- a buffer of this length holds every listing: 2,080 lines of 88 bytes
+-- digits of the largest number of 64 bits
+abbrev pub maxDigits : ℕ
+maxDigits = digitsOf 20 (2 ^ 64 - 1)
+
+-- a line: a word and at most four numbers, a space before each; a node has fewer digits, which leaves room for the
+-- line feed
+abbrev pub maxLine : ℕ
+maxLine = length pairWord + 4 * (1 + maxDigits)
+
+-- a buffer of this length holds every listing, 183,040: a line for each node, and for every two
 abbrev pub maxListing : ℕ
-maxListing = 183040
+maxListing = maxLine * (maxNodes + maxNodes * (maxNodes - 1) / 2)
 
 -- what is answered of a shorter buffer
 abbrev pub notListed : ℕ

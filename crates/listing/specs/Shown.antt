@@ -1,15 +1,14 @@
--- What the listing of an accepted file shows: a cut tree of its network, and of every two nodes the value and one side of a minimum cut. No
--- line stands for a refused pair.
+-- What the listing of an accepted file shows: a cut tree of its network, and of every two nodes the value and one side
+-- of a minimum cut. No line stands for a refused pair.
 use Prim.Native.Nat.{ℕ, _<_}
 use mathlib.Core.Path.{_≡_}
 use mathlib.Core.List.{List, []}
 use native.Mathlib.Omega.{arith}
-use Rattle.network.specs.Checks.{accepted}
 use Rattle.cut_tree.specs.Definition1.{CutTree}
-use Rattle.cut_tree.specs.AnswerLaws.{MinimumAnswer}
+use Rattle.cut_tree.specs.Answer.{MinimumAnswer}
 use Rattle.plan.specs.Calls.{openOf, pairOf}
-use Rattle.plan.specs.Run.{left}
-use Rattle.plan.specs.Whole.{demand-3, opened-cut-tree}
+use Rattle.history.specs.Run.{left}
+use Rattle.history.specs.Whole.{demand-3, opened-cut-tree}
 use Rattle.plan.specs.declared.Plan.{Plan}
 use Rattle.listing.specs.Listing.{planLines, listingOf}
 

@@ -1,9 +1,8 @@
 // A line of the listing: a word and numbers, one space before each number, a line feed after the last.
-ghost use mathlib.Core.List.{_++_};
 ghost use lib.ListN.{length};
 ghost use Prim.Native.Nat.{_+_, _≤_};
-ghost use Rattle.listing.specs.Listing.{numbersOf, lineOf};
-ghost use Rattle.listing.specs.Puts.{Puts};
+ghost use Rattle.listing.specs.Listing.{decimalsOf, lineOf};
+ghost use Rattle.base.specs.code.Puts.{Puts};
 
 // Puts a word at a place, and gives the place behind it.
 fn put_word(out: &mut [u8], place: usize, word: &[u8]) -> usize
@@ -19,9 +18,9 @@ fn put_word(out: &mut [u8], place: usize, word: &[u8]) -> usize
 }
 
 // Puts the numbers and the line feed.
-fn put_numbers(out: &mut [u8], place: usize, numbers: &[u64]) -> usize
-    requires { ⌜ place + length (numbersOf (now numbers)) ≤ length (now out) ⌝ }
-    ensures { λ r. ⌜ Puts (now (out .entry)) place (numbersOf (now (numbers .entry))) r (now (out .exit)) ⌝ }
+fn put_decimals(out: &mut [u8], place: usize, numbers: &[u64]) -> usize
+    requires { ⌜ place + length (decimalsOf (now numbers)) ≤ length (now out) ⌝ }
+    ensures { λ r. ⌜ Puts (now (out .entry)) place (decimalsOf (now (numbers .entry))) r (now (out .exit)) ⌝ }
 {
     let mut next = place;
     for k in 0..numbers.len() {
@@ -34,8 +33,9 @@ fn put_numbers(out: &mut [u8], place: usize, numbers: &[u64]) -> usize
 
 pub fn put_line(out: &mut [u8], place: usize, word: &[u8], numbers: &[u64]) -> usize
     requires { ⌜ place + length (lineOf (now word) (now numbers)) ≤ length (now out) ⌝ }
-    ensures { λ r. ⌜ Puts (now (out .entry)) place (lineOf (now (word .entry)) (now (numbers .entry))) r (now (out .exit)) ⌝ }
+    ensures { λ r. ⌜ Puts (now (out .entry)) place (lineOf (now (word .entry)) (now (numbers .entry)))
+        r (now (out .exit)) ⌝ }
 {
     let next = put_word(&mut *out, place, word);
-    put_numbers(&mut *out, next, numbers)
+    put_decimals(&mut *out, next, numbers)
 }

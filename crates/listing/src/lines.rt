@@ -9,7 +9,7 @@ ghost use Prim.Native.Nat.{suc, _+_, _-_, _<_, _≤_};
 ghost use Rattle.network.specs.Limits.{maxNodes};
 ghost use Rattle.cut_tree.specs.Path.{weightOf, sideIn};
 ghost use Rattle.listing.specs.Listing.{treeLine, treeLines, pairLine, pairsOf, pairLines, planLines};
-ghost use Rattle.listing.specs.Puts.{Puts};
+ghost use Rattle.base.specs.code.Puts.{Puts};
 
 fn tree_line(out: &mut [u8], place: usize, tree: Tree, node: usize) -> usize
     requires { ⌜ node < maxNodes ⌝ }

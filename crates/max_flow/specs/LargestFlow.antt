@@ -1,4 +1,4 @@
--- The flow that is shown for two nodes ("Splits and flows" of document 01): lawful, and of the largest total. Which one
+-- The flow that is shown for two nodes (Cuts and flows (docs/SCOPE.md, 3)): lawful, and of the largest total. Which one
 -- is left free.
 use mathlib.Core.Path.{_≡_}
 use mathlib.Core.List.{List}

@@ -15,6 +15,6 @@ pub record Endpoints (net : Network) (s t : ℕ) : Type 0 where
   pub sink : t < net .nodes
   pub apart : s ≢ t
 
--- the least minimum cut of (s, t) (document 01: the least side), and its value
+-- the least minimum cut of (s, t) (the paper: the least side), and its value
 unfoldable pub leastCutOf : Network → ℕ → ℕ → Cut
 leastCutOf net s t = record { side = leastSide net s t; value = minCutValue net s t }

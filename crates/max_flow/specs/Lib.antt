@@ -1,14 +1,11 @@
+-- definitions: the least minimum cut with its value, a lawful flow of the largest total
 pub mod LeastCut
 pub mod LargestFlow
-pub mod Residuals
-pub mod ResidualLaws
-pub mod Search
-pub mod SearchLaws
-pub mod Scan
-pub mod Push
-pub mod Signed
-pub mod LinkFlows
-pub mod Send
-pub mod Augment
-pub mod AnswerLaws
-pub mod Examples
+-- what is shown: that these answers are what their names say
+pub mod Answers
+-- what contracts of the code cite: residual capacities, search, push, sender, the augmenting loop
+pub mod code
+-- worked examples
+pub mod examples
+-- lemmas
+pub mod laws

@@ -16,10 +16,10 @@ use node_set::contains;
 ghost use lib.ListN.{length};
 ghost use mathlib.Core.Path.{_≡_};
 ghost use Prim.Native.Nat.{ℕ, _≤_};
-ghost use Rattle.max_flow.specs.Augment.{Augmented};
-ghost use Rattle.max_flow.specs.Push.{Sending, Sent};
-ghost use Rattle.max_flow.specs.Residuals.{fullResidual};
-ghost use Rattle.max_flow.specs.Search.{Ready};
+ghost use Rattle.max_flow.specs.code.Augment.{Augmented};
+ghost use Rattle.max_flow.specs.code.Push.{Sending, Sent};
+ghost use Rattle.max_flow.specs.code.Residuals.{fullResidual};
+ghost use Rattle.max_flow.specs.code.Search.{Ready};
 ghost use Rattle.network.specs.declared.Network.{Network};
 
 // d is sent from the first node of the tree to the one reached last, link by link: what that leaves of the residual

@@ -4,7 +4,7 @@ ghost use lib.IntN.{pos, _-ℤ_};
 ghost use lib.ListN.{length};
 ghost use mathlib.Core.Path.{_≡_};
 ghost use Prim.Native.Nat.{_^_, _<_};
-ghost use Rattle.max_flow.specs.LinkFlows.{Moderate, linkFlows};
+ghost use Rattle.max_flow.specs.code.LinkFlows.{Moderate, linkFlows};
 
 // what a link of capacity c carries, where `left` is left of it from a to b
 fn carried(c: u32, left: u32) -> i32

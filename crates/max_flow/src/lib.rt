@@ -1,4 +1,4 @@
-// Minimum cuts and maximum flows between two nodes of a network (document 01, "Splits and flows" and "The tree").
+// Minimum cuts and maximum flows between two nodes of a network (docs/SCOPE.md, 3 and 4).
 mod augment; // flow sent until no search reaches the sink
 mod flows; // what each link carries
 mod residual; // residual capacities
@@ -19,11 +19,11 @@ use network::incidence_of;
 ghost use lib.ListN.{length};
 ghost use mathlib.Core.Path.{_≡_};
 ghost use Prim.Native.Nat.{_≤_};
-ghost use Rattle.max_flow.specs.Augment.{Augmented};
+ghost use Rattle.max_flow.specs.code.Augment.{Augmented};
 ghost use Rattle.max_flow.specs.LargestFlow.{LargestFlow};
 ghost use Rattle.max_flow.specs.LeastCut.{Endpoints, leastCutOf};
-ghost use Rattle.max_flow.specs.Residuals.{fullResidual};
-ghost use Rattle.max_flow.specs.Search.{Ready};
+ghost use Rattle.max_flow.specs.code.Residuals.{fullResidual};
+ghost use Rattle.max_flow.specs.code.Search.{Ready};
 
 // A cut: one of its sides, and its value.
 pub struct Cut {
@@ -70,7 +70,7 @@ fn augment_net(net: Network, s: usize, t: usize, out: &mut [i32]) -> Cut
     augment(&full, &first, &next, &to, &table, &start, s, t, out)
 }
 
-// The least minimum cut of (s, t) (document 01: the least side), with its value.
+// The least minimum cut of (s, t) (the paper: the least side), with its value.
 pub fn least_min_cut(net: Network, s: usize, t: usize) -> Cut
     requires { ⌜ Endpoints net s t ⌝ }
     ensures { λ r. ⌜ r ≡ leastCutOf net s t ⌝ }

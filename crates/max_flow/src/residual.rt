@@ -1,11 +1,11 @@
-// Residual capacities (document 01: each link has two spare capacities, one each way).
+// Residual capacities (the paper: each link has two spare capacities, one each way).
 use network::MAX_LINKS;
 use network::Network;
 ghost use mathlib.Core.Bool.{true, cond};
 ghost use mathlib.Core.Path.{_≡_};
 ghost use Prim.Native.Nat.{_+_, _*_, _≤_};
-ghost use Rattle.max_flow.specs.Residuals.{fullResidual, lesserOf, rowAfter, sentAlong, Along};
-ghost use Rattle.min_cut.specs.Arcs.{forward};
+ghost use Rattle.max_flow.specs.code.Residuals.{fullResidual, lesserOf, rowAfter, sentAlong, Along};
+ghost use Rattle.min_cut.specs.code.Arcs.{forward};
 ghost use Rattle.network.specs.Limits.{maxCapacity};
 ghost use Rattle.network.specs.Network.{networkFits};
 

@@ -1,4 +1,4 @@
-// The search for an augmenting path (document 01: the search for a way), over the arcs that have residual capacity.
+// The search for an augmenting path (the paper: the search for a way), over the arcs that have residual capacity.
 use crate::residual::UNLIMITED;
 use crate::residual::lesser;
 use network::MAX_ARCS;
@@ -9,7 +9,7 @@ use node_set::contains;
 use node_set::empty;
 ghost use mathlib.Core.Path.{_≡_};
 ghost use Prim.Native.Nat.{_<_};
-ghost use Rattle.max_flow.specs.Search.{seedOf, Ready, Searched};
+ghost use Rattle.max_flow.specs.code.Search.{seedOf, Ready, Searched};
 ghost use Rattle.network.specs.declared.Network.{Network};
 ghost use Rattle.network.specs.Limits.{maxNodes};
 

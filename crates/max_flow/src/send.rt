@@ -20,9 +20,9 @@ use node_set::lowest;
 use node_set::single;
 ghost use mathlib.Core.Path.{_≡_};
 ghost use Prim.Native.Nat.{ℕ, _+_, _<_};
-ghost use Rattle.max_flow.specs.Residuals.{Flowing};
+ghost use Rattle.max_flow.specs.code.Residuals.{Flowing};
 ghost use Rattle.max_flow.specs.LeastCut.{Endpoints};
-ghost use Rattle.max_flow.specs.Send.{otherWay, Consistent, Way, Sends};
+ghost use Rattle.max_flow.specs.code.Send.{otherWay, Consistent, Way, Sends};
 ghost use Rattle.network.specs.declared.Network.{Network};
 ghost use Rattle.network.specs.Limits.{maxArcs, maxNodes};
 
@@ -70,8 +70,8 @@ fn allowed(
     residual[j / 2][j % 2]
 }
 
-// Sends at most `limit` from u to t along arc j to x, of ring l, and on from there; how much that is. `on` are the nodes
-// on the way to u, and u: arcs that lead to those keep their room.
+// Sends at most `limit` from u to t along arc j to x, of ring l, and on from there; how much that is. `on` are the
+// nodes on the way to u, and u: arcs that lead to those keep their room.
 fn send_by(
     to: &[u8; MAX_ARCS],
     table: &[u16; TABLE],
@@ -91,15 +91,15 @@ fn send_by(
         → Consistent net (now (to .entry)) (now (residual .entry))
         → Sends net t on u limit r (now (residual .entry)) (now (residual .exit))) ⌝ }
 {
-    let room = allowed(to, &*residual, on, u, x, j);
-    let want = lesser(room, limit);
+    let spare = allowed(to, &*residual, on, u, x, j);
+    let want = lesser(spare, limit);
     if want == 0 {
         note_shut(hints, u, x);
         return 0;
     }
     let d = send_from(to, table, hints, residual, t, x, l, add(on, x), want);
     along(residual, j, d);
-    note_sent(hints, table, u, x, j, room, d);
+    note_sent(hints, table, u, x, j, spare, d);
     note_short(hints, x, l, want, d);
     d
 }

@@ -1,9 +1,9 @@
--- "Splits and flows" of document 01: networks, sides and what they cost, minimum cuts.
+-- Cuts and flows (docs/SCOPE.md, 3): networks, sides and what they cost, minimum cuts.
 -- The paper's words: a side parts a link: it crosses it; a side's cost: cut value; a cheapest side: minimum cut.
 use mathlib.Core.Path.{_≡_}
 use mathlib.Core.Bool.{Bool, true, false, not, _&&_, _||_}
 use Prim.Native.Nat.{ℕ, _≤_, _<_}
-use Rattle.min_cut.specs.Sum.{sum}
+use Rattle.base.specs.Sum.{sum}
 
 -- m links, of which link k joins the nodes a k and b k and has the capacity c k
 pub record Net : Type 0 where
@@ -22,11 +22,6 @@ crossing true true c = 0
 crossing true false c = c
 crossing false true c = c
 crossing false false c = 0
-
--- exactly one of the two
-abbrev pub differ : Bool → Bool → Bool
-differ true y = not y
-differ false y = y
 
 -- the cut value of a side: the sum of the capacities of the links that it crosses
 unfoldable pub cutValue : Net → Side → ℕ

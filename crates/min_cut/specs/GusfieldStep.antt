@@ -5,13 +5,13 @@ use mathlib.Core.Bool.{Bool, true, false, not, true≢false}
 use Prim.Native.Nat.{ℕ, suc, _+_, _<_}
 use native.Mathlib.Omega.{arith}
 use native.Mathlib.Decide.{ℕ-discrete}
-use Rattle.min_cut.specs.Put.{put, put-same, put-other}
+use Rattle.base.specs.laws.Put.{put, put-same, put-other}
 use Rattle.min_cut.specs.Cut.{Net, Side, cutValue, complement, MinCut}
-use Rattle.min_cut.specs.CutLaws.{cutValue-complement, complement-minimum}
-use Rattle.min_cut.specs.Uncross.{graft, lift}
-use Rattle.min_cut.specs.Word.{bit}
+use Rattle.min_cut.specs.laws.CutLaws.{cutValue-complement, complement-minimum}
+use Rattle.min_cut.specs.laws.Uncross.{graft, lift}
+use Rattle.base.specs.Word.{bit}
 use Rattle.min_cut.specs.GusfieldTree.{Tree, Cut-tree, Goes, along, stays, far, pivot-lt, pivot-below}
-use Rattle.min_cut.specs.GusfieldUncross.{Fitted, fitted}
+use Rattle.min_cut.specs.laws.GusfieldUncross.{Fitted, fitted}
 
 module _ (G : Net) (i : ℕ) (p w : ℕ → ℕ) (Z : ℕ → Side) (r : ℕ → ℕ) (T : Tree G i p w Z r)
     (t : ℕ) (et : p i ≡ t) (X : Side) (c : MinCut G i t X) where
@@ -88,7 +88,8 @@ module _ (G : Net) (i : ℕ) (p w : ℕ → ℕ) (Z : ℕ → Side) (r : ℕ →
       where
         go : Dec (x ≡ t) → Y x ≡ Y (p x)
         go (no m) = F .far x l m q
-        go (yes m) = ap Y m ∙ F .minimum .outside ∙ sym no-up ∙ sym (F .up (subst (λ k. 0 < k) m l)) ∙ ap Y (ap p (sym m))
+        go (yes m) =
+            ap Y m ∙ F .minimum .outside ∙ sym no-up ∙ sym (F .up (subst (λ k. 0 < k) m l)) ∙ ap Y (ap p (sym m))
 
     rank₁ : (x : ℕ) → 0 < x → r₁ (p′ x) < r₁ x
     rank₁ x l = go (ℕ-discrete x i)
@@ -96,9 +97,28 @@ module _ (G : Net) (i : ℕ) (p w : ℕ → ℕ) (Z : ℕ → Side) (r : ℕ →
         same : (x : ℕ) → 0 < x → x ≢ i → (b : Bool) → Y x ≡ b → Goes p p′ X i t x → Y x ≡ Y (p′ x) → r₁ (p′ x) < r₁ x
         same x l n true e (along q a f) s = rw f (omega (arith, r₁-own, r₁-in x n e, T .rank x l, ap r q))
         same x l n false e (along q a f) s = absurd (true≢false (sym a ∙ sym (F .child x l q) ∙ e))
-        same x l n b e (stays q a f) s = rw f (omega (arith, r₁-out t t-ne (F .minimum .outside), r₁-out x n (F .child x l q ∙ a), T .rank x l, ap r q))
-        same x l n true e (far q f) s = rw f (omega (arith, r₁-in x n e, r₁-in (p x) (omega (arith, T .done x)) (ap Y (sym f) ∙ sym s ∙ e), T .rank x l))
-        same x l n false e (far q f) s = rw f (omega (arith, r₁-out x n e, r₁-out (p x) (omega (arith, T .done x)) (ap Y (sym f) ∙ sym s ∙ e), T .rank x l))
+        same x l n b e (stays q a f) s =
+            rw f (omega (
+              arith,
+              r₁-out t t-ne (F .minimum .outside),
+              r₁-out x n (F .child x l q ∙ a),
+              T .rank x l,
+              ap r q,
+            ))
+        same x l n true e (far q f) s =
+            rw f (omega (
+              arith,
+              r₁-in x n e,
+              r₁-in (p x) (omega (arith, T .done x)) (ap Y (sym f) ∙ sym s ∙ e),
+              T .rank x l,
+            ))
+        same x l n false e (far q f) s =
+            rw f (omega (
+              arith,
+              r₁-out x n e,
+              r₁-out (p x) (omega (arith, T .done x)) (ap Y (sym f) ∙ sym s ∙ e),
+              T .rank x l,
+            ))
 
         go : Dec (x ≡ i) → r₁ (p′ x) < r₁ x
         go (yes e) = rw (e, own) (omega (arith, r₁-own, r₁-out t t-ne (F .minimum .outside)))
@@ -150,10 +170,27 @@ module _ (G : Net) (i : ℕ) (p w : ℕ → ℕ) (Z : ℕ → Side) (r : ℕ →
         go (no n) = goes-done p′ x (goes x n)
 
     pub step : Cut-tree G (suc i) p′ w′
-    step = (Z₁, r₁, record { one = omega arith; home = goes-home p′ (goes 0 (omega (arith, T .one))); done = done₁; rank = rank₁; root = root₁; down = down₁; minimum = minimum₁; weight = weight₁ })
+    step = (
+      Z₁,
+      r₁,
+      record {
+        one =
+            omega arith;
+        home =
+            goes-home p′ (goes 0 (omega (arith, T .one)));
+        done =
+            done₁;
+        rank = rank₁;
+        root = root₁;
+        down = down₁;
+        minimum = minimum₁;
+        weight = weight₁;
+      },
+    )
 
   -- where X takes t's parent too, i goes between the two
-  module _ (p′ w′ : ℕ → ℕ) (up : X (p t) ≡ true) (goes : (x : ℕ) → x ≢ i → x ≢ t → Goes p p′ X i t x) (own : p′ i ≡ p t) (under : p′ t ≡ i)
+  module _ (p′ w′ : ℕ → ℕ) (up : X (p t) ≡ true) (goes : (x : ℕ) → x ≢ i → x ≢ t → Goes p p′ X i t x)
+      (own : p′ i ≡ p t) (under : p′ t ≡ i)
       (wi : w′ i ≡ w t) (wt : w′ t ≡ cutValue G X) (wo : (y : ℕ) → y ≢ i → y ≢ t → w′ y ≡ w y) where
     tl : 0 < t
     tl = go (ℕ-discrete t 0)
@@ -202,8 +239,23 @@ module _ (G : Net) (i : ℕ) (p w : ℕ → ℕ) (Z : ℕ → Side) (r : ℕ →
 
         same : x ≢ i → x ≢ t → Goes p p′ X i t x → r₂ (p′ x) < r₂ x
         same n m (along q a f) = rw f (omega (arith, r₂-own, r₂-other x n, T .rank x l, ap r q))
-        same n m (stays q a f) = rw f (omega (arith, r-t, r₂-other x n, ap bit (pivot-below G i p w Z r T t et tl x l q m), T .rank x l, ap r q))
-        same n m (far q f) = rw f (omega (arith, r₂-other x n, r₂-other (p x) (omega (arith, T .done x)), ap bit (T .down t x tl t-lt l m), T .rank x l))
+        same n m (stays q a f) =
+            rw f (omega (
+              arith,
+              r-t,
+              r₂-other x n,
+              ap bit (pivot-below G i p w Z r T t et tl x l q m),
+              T .rank x l,
+              ap r q,
+            ))
+        same n m (far q f) =
+            rw f (omega (
+              arith,
+              r₂-other x n,
+              r₂-other (p x) (omega (arith, T .done x)),
+              ap bit (T .down t x tl t-lt l m),
+              T .rank x l,
+            ))
 
         go : Dec (x ≡ i) → Dec (x ≡ t) → r₂ (p′ x) < r₂ x
         go (yes e) d = rw (e, own) (omega (arith, r₂-own, r-up, T .rank t tl))
@@ -228,7 +280,8 @@ module _ (G : Net) (i : ℕ) (p w : ℕ → ℕ) (Z : ℕ → Side) (r : ℕ →
         go (no a) (yes e) (yes f) dx = rw (e, Z₂-t, f, own) (ap not (F .minimum .inside ∙ sym up ∙ sym (F .up tl)))
         go (no a) (yes e) (no n) (yes f) = absurd (d (f ∙ sym e))
         go (no a) (yes e) (no n) (no o) = rw (e, Z₂-t) (ap not (moved-fitted p′ x xl (F .far x xl o) (goes x n o)))
-        go (no a) (no b) (yes f) dx = rw (Z₂-other y a b, f, own) (beside y l (omega arith) ∙ T .down y t l (omega arith) tl (λ q. b (sym q)))
+        go (no a) (no b) (yes f) dx =
+            rw (Z₂-other y a b, f, own) (beside y l (omega arith) ∙ T .down y t l (omega arith) tl (λ q. b (sym q)))
         go (no a) (no b) (no n) (yes f) = rw (Z₂-other y a b, f, under) (sym (beside y l (omega arith)))
         go (no a) (no b) (no n) (no o) = rw (Z₂-other y a b) (moved-down p′ y x l (omega arith) xl d (goes x n o))
 
@@ -236,7 +289,8 @@ module _ (G : Net) (i : ℕ) (p w : ℕ → ℕ) (Z : ℕ → Side) (r : ℕ →
     minimum₂ y l m = go (ℕ-discrete y i) (ℕ-discrete y t)
       where
         go : Dec (y ≡ i) → Dec (y ≡ t) → MinCut G y (p′ y) (Z₂ y)
-        go (yes e) d = rw (e, Z₂-i, own) (lift G (p t) i t (Z t) X t-minimum (beside t tl t-lt ∙ t-minimum .inside) c up)
+        go (yes e) d =
+            rw (e, Z₂-i, own) (lift G (p t) i t (Z t) X t-minimum (beside t tl t-lt ∙ t-minimum .inside) c up)
         go (no n) (yes e) = rw (e, Z₂-t, under) (complement-minimum G i t Y (F .minimum))
         go (no n) (no o) = rw (Z₂-other y n o) (moved p′ y l (omega arith) (goes y n o))
 
@@ -257,4 +311,20 @@ module _ (G : Net) (i : ℕ) (p w : ℕ → ℕ) (Z : ℕ → Side) (r : ℕ →
         go (no n) (no o) = goes-done p′ x (goes x n o)
 
     pub step-up : Cut-tree G (suc i) p′ w′
-    step-up = (Z₂, r₂, record { one = omega arith; home = goes-home p′ (goes 0 (omega (arith, T .one)) (omega (arith, tl))); done = done₂; rank = rank₂; root = root₂; down = down₂; minimum = minimum₂; weight = weight₂ })
+    step-up = (
+      Z₂,
+      r₂,
+      record {
+        one =
+            omega arith;
+        home =
+            goes-home p′ (goes 0 (omega (arith, T .one)) (omega (arith, tl)));
+        done =
+            done₂;
+        rank = rank₂;
+        root = root₂;
+        down = down₂;
+        minimum = minimum₂;
+        weight = weight₂;
+      },
+    )

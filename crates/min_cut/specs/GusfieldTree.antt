@@ -7,10 +7,11 @@ use native.Mathlib.Omega.{arith}
 use native.Mathlib.Decide.{ℕ-discrete}
 use lib.Dec.{eqb}
 use borrow.Author.Tests.{eq-eqb, ne-eqb}
-use Rattle.min_cut.specs.Bools.{bool1}
+use Rattle.base.specs.laws.Bools.{bool1}
 use Rattle.min_cut.specs.Cut.{Net, Side, cutValue, MinCut}
 
--- the tree of the nodes below i: p x is x's parent, Z y the side below y, a minimum cut between y and p y, w y its value, r a rank
+-- the tree of the nodes below i: p x is x's parent, Z y the side below y, a minimum cut between y and p y, w y its
+-- value, r a rank
 pub record Tree (G : Net) (i : ℕ) (p w : ℕ → ℕ) (Z : ℕ → Side) (r : ℕ → ℕ) : Type 0 where
   pub one : 0 < i
   pub home : p 0 ≡ 0
@@ -55,6 +56,7 @@ pub goes-by : (p p′ : ℕ → ℕ) (X : Side) (s t x : ℕ) → p′ x ≡ con
 goes-by p p′ X s t x e = go (X x) refl (ℕ-discrete (p x) t)
   where
     go : (b : Bool) → X x ≡ b → Dec (p x ≡ t) → Goes p p′ X s t x
-    go b q (no n) = far n (e ∙ simp (ne-eqb (p x) t n) (bool1 (λ u. cond (u && false) s (p x) ≡ p x) (refl, refl) (X x)))
+    go b q (no n) =
+        far n (e ∙ simp (ne-eqb (p x) t n) (bool1 (λ u. cond (u && false) s (p x) ≡ p x) (refl, refl) (X x)))
     go true q (yes f) = along f q (e ∙ simp (q, eq-eqb (p x) t f))
     go false q (yes f) = stays f q (e ∙ simp q f)

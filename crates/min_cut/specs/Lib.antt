@@ -1,22 +1,16 @@
-pub mod Bools
-pub mod Sum
-pub mod Put
+-- definitions: networks, sides and their values, minimum cuts, the least one as a word, lawful flows
 pub mod Cut
-pub mod CutLaws
-pub mod Word
-pub mod WordLaws
-pub mod LeastCut
-pub mod Residual
+pub mod FirstWord
 pub mod Lawful
-pub mod IntParts
-pub mod OutflowLaws
+-- what is shown: the least minimum cut, maximum flows and minimum cuts, Gusfield's step
+pub mod LeastCut
 pub mod MaxFlow
-pub mod Augment
 pub mod StrongDuality
-pub mod Arcs
-pub mod Uncross
 pub mod GusfieldTree
-pub mod GusfieldUncross
 pub mod GusfieldStep
-pub mod GusfieldPairs
-pub mod Examples
+-- what contracts of the code above cite: residual form, arcs
+pub mod code
+-- worked examples
+pub mod examples
+-- lemmas
+pub mod laws

@@ -9,18 +9,20 @@ use lib.Dec.{eqb}
 use lib.IntN.{ℤ, pos, natAbs, _-ℤ_}
 use lib.Signed.{_≤ℤ_}
 use borrow.Author.Tests.{eq-eqb, ne-eqb}
-use Rattle.min_cut.specs.Bools.{bool1}
-use Rattle.min_cut.specs.Sum.{sum, sum-single}
+use Rattle.base.specs.laws.Bools.{bool1}
+use Rattle.base.specs.laws.SumLaws.{sum-single}
+use Rattle.base.specs.Sum.{sum}
 use Rattle.min_cut.specs.Cut.{Net, Side, cutValue, complement, Separates, MinCut, Within}
-use Rattle.min_cut.specs.CutLaws.{cutValue-complement}
-use Rattle.min_cut.specs.Residual.{when, ResidualFlow}
+use Rattle.min_cut.specs.laws.CutLaws.{cutValue-complement}
+use Rattle.min_cut.specs.code.Residual.{when, ResidualFlow}
 use Rattle.min_cut.specs.Lawful.{outflow, Lawful, total, MaximumFlow}
-use Rattle.min_cut.specs.IntParts.{above, under, size-parts, one-part, same-parts, le-parts}
-use Rattle.min_cut.specs.OutflowLaws.{only, outflow-only, outflow-side, sent-le, carries, sent-residual}
+use Rattle.base.specs.laws.IntParts.{above, under, size-parts, one-part, same-parts, le-parts}
+use Rattle.min_cut.specs.laws.OutflowLaws.{only, outflow-only, outflow-side, sent-le, carries, sent-residual}
 
 -- a flow of v in residual form, whose link k carries c k - p k, is lawful and has the total v
 module _ (G : Net) (s t v : ℕ) (d : s ≢ t) (p q : ℕ → ℕ) (r : ResidualFlow G s t v p q) (f : ℕ → ℤ)
-    (both : (k : ℕ) → k < G .m → p k + q k ≡ 2 * G .c k) (is : (k : ℕ) → k < G .m → f k ≡ pos (G .c k) -ℤ pos (p k)) where
+    (both : (k : ℕ) → k < G .m → p k + q k ≡ 2 * G .c k)
+    (is : (k : ℕ) → k < G .m → f k ≡ pos (G .c k) -ℤ pos (p k)) where
   fits : (k : ℕ) → k < G .m → natAbs (f k) ≤ G .c k
   fits k l = omega (arith, size-parts (f k), one-part (f k), carries (G .c k) (p k) (f k) (is k l), both k l)
 
@@ -29,18 +31,28 @@ module _ (G : Net) (s t v : ℕ) (d : s ≢ t) (p q : ℕ → ℕ) (r : Residual
   node x = omega (arith, outflow-only G f x, sent-residual G p q f both is (only x), r (only x))
 
   kept : (x : ℕ) → x ≢ s → x ≢ t → outflow G f x (G .m) ≡ pos 0
-  kept x ns nt = same-parts (outflow G f x (G .m)) (pos 0) (omega (arith, rw (ne-eqb s x (λ e. ns (sym e)), ne-eqb t x (λ e. nt (sym e))) at (node x)))
+  kept x ns nt =
+      same-parts (outflow G f x (G .m)) (pos 0) (omega (
+        arith,
+        rw (ne-eqb s x (λ e. ns (sym e)), ne-eqb t x (λ e. nt (sym e))) at (node x),
+      ))
 
   pub residual-lawful : (n : ℕ) → Lawful G n s t f
   residual-lawful n = record { within = fits; conserved = λ x l. kept x }
 
   pub residual-total : total G f s ≡ pos v
   unfolding total
-  residual-total = same-parts (outflow G f s (G .m)) (pos v) (omega (arith, rw (eq-eqb s s refl, ne-eqb t s (λ e. d (sym e))) at (node s)))
+  residual-total =
+      same-parts (outflow G f s (G .m)) (pos v) (omega (
+        arith,
+        rw (eq-eqb s s refl, ne-eqb t s (λ e. d (sym e))) at (node s),
+      ))
 
-module _ (G : Net) (n s t : ℕ) (w : Within G n) (sl : s < n) (f : ℕ → ℤ) (h : Lawful G n s t f) (X : Side) (i : X s ≡ true) (o : X t ≡ false) where
+module _ (G : Net) (n s t : ℕ) (w : Within G n) (sl : s < n) (f : ℕ → ℤ) (h : Lawful G n s t f) (X : Side)
+    (i : X s ≡ true) (o : X t ≡ false) where
   -- but for s the nodes of X send nothing out
-  only-s : (part : ℤ → ℕ) → part (pos 0) ≡ 0 → sum n (λ x. when (X x) (part (outflow G f x (G .m)))) ≡ part (total G f s)
+  only-s : (part : ℤ → ℕ) → part (pos 0) ≡ 0
+      → sum n (λ x. when (X x) (part (outflow G f x (G .m)))) ≡ part (total G f s)
   unfolding total
   only-s part z = sum-single n _ s sl (λ x l ns. go x l ns (ℕ-discrete x t)) ∙ rw i
     where
@@ -60,17 +72,25 @@ module _ (G : Net) (n s t : ℕ) (w : Within G n) (sl : s < n) (f : ℕ → ℤ)
 
 module _ (G : Net) (n s t : ℕ) (w : Within G n) (sl : s < n) where
   -- so for every side that separates s and t
-  pub weak-duality-separates : (f : ℕ → ℤ) → Lawful G n s t f → (X : Side) → Separates X s t → total G f s ≤ℤ pos (cutValue G X)
+  pub weak-duality-separates : (f : ℕ → ℤ) → Lawful G n s t f → (X : Side) → Separates X s t
+      → total G f s ≤ℤ pos (cutValue G X)
   weak-duality-separates f h X e = go (X t) refl
     where
       go : (b : Bool) → X t ≡ b → total G f s ≤ℤ pos (cutValue G X)
       go false q = weak-duality G n s t w sl f h X (e ∙ ap not q) q
-      go true q = subst (λ c. total G f s ≤ℤ pos c) (cutValue-complement G X) (weak-duality G n s t w sl f h (complement X) (simp (e, q)) (simp q))
+      go true q =
+          subst (λ c. total G f s ≤ℤ pos c) (cutValue-complement G X)
+          (weak-duality G n s t w sl f h (complement X) (simp (e, q)) (simp q))
 
   -- a lawful flow whose total is the value of a side between s and t is a maximum flow, and the side is a minimum cut
-  module _ (f : ℕ → ℤ) (h : Lawful G n s t f) (X : Side) (i : X s ≡ true) (o : X t ≡ false) (e : total G f s ≡ pos (cutValue G X)) where
+  module _ (f : ℕ → ℤ) (h : Lawful G n s t f) (X : Side) (i : X s ≡ true) (o : X t ≡ false)
+      (e : total G f s ≡ pos (cutValue G X)) where
     pub tight-maximum : MaximumFlow G n s t (cutValue G X) f
     tight-maximum = record { lawful = h; value = e; greatest = λ g hg. weak-duality G n s t w sl g hg X i o }
 
     pub tight-minimum : MinCut G s t X
-    tight-minimum = record { inside = i; outside = o; least = λ Y yi yo. weak-duality-value G n s t w sl f h Y yi yo (cutValue G X) e }
+    tight-minimum = record {
+      inside = i;
+      outside = o;
+      least = λ Y yi yo. weak-duality-value G n s t w sl f h Y yi yo (cutValue G X) e;
+    }

@@ -1,0 +1,1 @@
+// No code: the theory of cuts, flows and cut trees.

@@ -1,9 +1,10 @@
-pub mod Basics
-pub mod BasicsLaws
+-- definitions: the limits, the refusal numbers, the network with its cuts and flows
 pub mod Limits
-pub mod Checks
+pub mod Refusals
 pub mod Network
-pub mod NetworkLaws
-pub mod Incidence
-pub mod IncidenceLaws
-pub mod Examples
+-- what contracts of the code cite: each node's own arcs
+pub mod code
+-- worked examples
+pub mod examples
+-- lemmas
+pub mod laws

@@ -1,4 +1,5 @@
--- The numbers of document 01, each said once.
+-- The limits (docs/SCOPE.md, 1), each said once: nodes, links, the capacity and the groups; others are computed from
+-- them.
 use Prim.Native.Nat.{ℕ, _*_}
 
 -- nodes (the paper's houses) of a network
@@ -23,4 +24,4 @@ maxGroups = 3
 
 -- a cut value: every link at its highest capacity
 abbrev pub maxValue : ℕ
-maxValue = 256000000
+maxValue = maxLinks * maxCapacity

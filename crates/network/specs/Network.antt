@@ -1,4 +1,4 @@
--- "The network" of document 01: its limits, its cuts and its flows. The paper's house is a node here.
+-- The network (docs/SCOPE.md, 1): its limits, its cuts and its flows. The paper's house is a node here.
 use Prim.Native.Nat.{ℕ}
 use mathlib.Core.Path.{_≡_}
 use mathlib.Core.Bool.{Bool, true, not}
@@ -6,10 +6,11 @@ use mathlib.Core.List.{List, [], _∷_}
 use lib.ListN.{length, getD, set, replicate}
 use lib.Dec.{ltb, leb, eqb}
 use lib.IntN.{ℤ, pos}
-use Rattle.min_cut.specs.Cut.{Net, Side, differ, cutValue}
-use Rattle.min_cut.specs.Word.{holds, leastMinCut}
+use Rattle.min_cut.specs.Cut.{Net, Side, cutValue}
+use Rattle.min_cut.specs.FirstWord.{leastMinCut}
+use Rattle.base.specs.Word.{holds}
 use Rattle.min_cut.specs.Lawful.{Lawful, total}
-use Rattle.network.specs.Basics.{at, all, every, blankFrom}
+use Rattle.base.specs.Basics.{at, all, every, blankFrom, differ}
 use Rattle.network.specs.Limits.{maxNodes, maxLinks, maxCapacity}
 use Rattle.network.specs.declared.Network.{Network}
 
@@ -46,11 +47,23 @@ pub record WithinLimits (net : Network) : Type 0 where
 
 -- all zeros: what stands beside a refusal
 abbrev pub noNetwork : Network
-noNetwork = record { nodes = 0; links = 0; a = replicate maxLinks 0; b = replicate maxLinks 0; capacity = replicate maxLinks 0 }
+noNetwork = record {
+  nodes = 0;
+  links = 0;
+  a = replicate maxLinks 0;
+  b = replicate maxLinks 0;
+  capacity = replicate maxLinks 0;
+}
 
 -- link k with another capacity
 abbrev pub withCapacity : Network → ℕ → ℕ → Network
-withCapacity net k c = record { nodes = net .nodes; links = net .links; a = net .a; b = net .b; capacity = set (net .capacity) k c }
+withCapacity net k c = record {
+  nodes = net .nodes;
+  links = net .links;
+  a = net .a;
+  b = net .b;
+  capacity = set (net .capacity) k c;
+}
 
 -- ---- its cuts
 -- the network as the theory of cuts sees it

@@ -1,6 +1,6 @@
 // Whether all places from n on are 0, of arrays of each width: the unused places of a record.
 ghost use mathlib.Core.Path.{_≡_};
-ghost use Rattle.network.specs.Basics.{blankFrom};
+ghost use Rattle.base.specs.Basics.{blankFrom};
 
 pub fn blank_from_u8(xs: &[u8], n: usize) -> bool
     ensures { λ r. ⌜ r ≡ blankFrom n (now (xs .entry)) ⌝ }

@@ -5,7 +5,7 @@ ghost use mathlib.Core.Bool.{true};
 ghost use mathlib.Core.Path.{_≡_};
 ghost use Prim.Native.Nat.{_<_};
 ghost use Rattle.min_cut.specs.Cut.{crossing};
-ghost use Rattle.min_cut.specs.Word.{holds};
+ghost use Rattle.base.specs.Word.{holds};
 ghost use Rattle.network.specs.Limits.{maxNodes};
 ghost use Rattle.network.specs.Network.{networkFits, valueOf};
 

@@ -1,4 +1,5 @@
-// Each node's own arcs, chained, so that a search scans no other node's links: arc 2k goes from a[k] to b[k], and arc 2k + 1 back.
+// Each node's own arcs, chained, so that a search scans no other node's links: arc 2k goes from a[k] to b[k], and arc
+// 2k + 1 back.
 use crate::MAX_ARCS;
 use crate::MAX_NODES;
 use crate::Network;
@@ -6,13 +7,13 @@ ghost use lib.ListN.{set};
 ghost use mathlib.Core.Bool.{true};
 ghost use mathlib.Core.Path.{_≡_};
 ghost use Prim.Native.Nat.{_+_, _*_, _<_};
-ghost use Rattle.network.specs.Basics.{at};
-ghost use Rattle.network.specs.Incidence.{Chains};
+ghost use Rattle.base.specs.Basics.{at};
+ghost use Rattle.network.specs.code.Incidence.{Chains};
 ghost use Rattle.network.specs.Limits.{maxNodes, maxArcs};
 ghost use Rattle.network.specs.Network.{networkFits};
 
-// first[u] is one more than the last arc that leaves u, and next[e] one more than the last arc before e with e's tail; 0 where there is none.
-// to[e] is where arc e leads.
+// first[u] is one more than the last arc that leaves u, and next[e] one more than the last arc before e with e's tail;
+// 0 where there is none. to[e] is where arc e leads.
 pub struct Incidence {
     pub first: [u16; MAX_NODES],
     pub next: [u16; MAX_ARCS],

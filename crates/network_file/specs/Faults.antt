@@ -1,15 +1,18 @@
--- "Checks by place", numbers 1 to 9: the condition of each and the place that it carries, in the paper's words and apart from any reader.
--- That reading gives these numbers at these places, and no other, is shown in `FaultLaws`.
+-- "Checks by place", numbers 1 to 9: the condition of each and the place that it carries, in the paper's words and
+-- apart from any reader. That reading gives these numbers at these places, and no other, is shown in `Files`.
 use Prim.Native.Nat.{ℕ, zero, suc, _+_, _-_, _*_, _≤_, _<_}
 use mathlib.Core.Path.{_≡_}
 use mathlib.Core.Logic.{_≢_}
 use mathlib.Core.List.{List, _∷_}
 use lib.ListN.{length, drop}
-use Rattle.network.specs.Basics.{at}
+use Rattle.base.specs.Basics.{at}
+use Rattle.network.specs.Refusals.{endsEarly, numberTooLong, zeroGroup, badNodeCount, tooManyLinks}
+use Rattle.network.specs.Refusals.{endNotANode, equalEnds, linkTooLarge, bytesFollow}
 use Rattle.network.specs.Limits.{maxNodes, maxLinks, maxCapacity, maxGroups}
 
 -- ---- each number of the file: t is what is left of the file, and a number has at most `most` groups
--- t begins with the groups of v, of this many bytes: lowest first, the top bit set in all but the last, the last of several not zero
+-- t begins with the groups of v, of this many bytes: lowest first, the top bit set in all but the last, the last of
+-- several not zero
 pub data Groups : List ℕ → ℕ → ℕ → Type 0 where
   last : {x : ℕ} {t : List ℕ} → x < 128 → Groups (x ∷ t) x 1
   more : {x v size : ℕ} {t : List ℕ} → 128 ≤ x → v ≢ 0 → Groups t v size → Groups (x ∷ t) (x - 128 + 128 * v) (size + 1)
@@ -69,26 +72,28 @@ following (capacity n left) c = linksLeft n left
 
 -- a number's own row: 4 to 8 for the value v
 pub data Wrong : Field → ℕ → ℕ → Type 0 where
-  four : {v : ℕ} → ((1 ≤ v) × (v ≤ maxNodes) → ⊥) → Wrong nodes v 4
-  five : {n v : ℕ} → maxLinks < v → Wrong (links n) v 5
-  six : {n left v : ℕ} → n ≤ v → Wrong (end n left) v 6
-  six-later : {n left a v : ℕ} → n ≤ v → Wrong (otherEnd n left a) v 6
-  seven : {n left a v : ℕ} → v < n → v ≡ a → Wrong (otherEnd n left a) v 7
-  eight : {n left v : ℕ} → maxCapacity < v → Wrong (capacity n left) v 8
+  four : {v : ℕ} → ((1 ≤ v) × (v ≤ maxNodes) → ⊥) → Wrong nodes v badNodeCount
+  five : {n v : ℕ} → maxLinks < v → Wrong (links n) v tooManyLinks
+  six : {n left v : ℕ} → n ≤ v → Wrong (end n left) v endNotANode
+  six-later : {n left a v : ℕ} → n ≤ v → Wrong (otherEnd n left a) v endNotANode
+  seven : {n left a v : ℕ} → v < n → v ≡ a → Wrong (otherEnd n left a) v equalEnds
+  eight : {n left v : ℕ} → maxCapacity < v → Wrong (capacity n left) v linkTooLarge
 
--- "A number passes 1 to 3, then its own row, before the next is read": what comes next at a place, where all before it has passed
+-- "A number passes 1 to 3, then its own row, before the next is read": what comes next at a place, where all before it
+-- has passed
 pub data Due (s : List ℕ) : Next → ℕ → Type 0 where
   first : Due s (number nodes) 0
   then : {x : Field} {place v size : ℕ}
-      → Due s (number x) place → Stands s place v size → ((e : ℕ) → Wrong x v e → ⊥) → Due s (following x v) (place + size)
+      → Due s (number x) place → Stands s place v size → ((e : ℕ) → Wrong x v e → ⊥)
+      → Due s (following x v) (place + size)
 
 -- the number that is given for what comes next at a place
 pub data Bad (s : List ℕ) (place : ℕ) : Next → ℕ → Type 0 where
-  one : {x : Field} → EndsEarly maxGroups (drop place s) → Bad s place (number x) 1
-  two : {x : Field} → TooLong maxGroups (drop place s) → Bad s place (number x) 2
-  three : {x : Field} → ZeroLast maxGroups (drop place s) → Bad s place (number x) 3
+  one : {x : Field} → EndsEarly maxGroups (drop place s) → Bad s place (number x) endsEarly
+  two : {x : Field} → TooLong maxGroups (drop place s) → Bad s place (number x) numberTooLong
+  three : {x : Field} → ZeroLast maxGroups (drop place s) → Bad s place (number x) zeroGroup
   by-row : {x : Field} {v size e : ℕ} → Stands s place v size → Wrong x v e → Bad s place (number x) e
-  nine : place < length s → Bad s place over 9
+  nine : place < length s → Bad s place over bytesFollow
 
 -- the file is refused with this number at this place
 pub record Fault (s : List ℕ) (e place : ℕ) : Type 0 where

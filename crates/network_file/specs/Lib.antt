@@ -1,18 +1,13 @@
+-- definitions: numbers, reading, writing, and the faults of a file apart from any reader
 pub mod Number
 pub mod Reading
 pub mod Writing
 pub mod Faults
+-- what is shown: one file for a network, refusals exactly for faults
 pub mod Files
-pub mod Readings
-pub mod NumberLaws
-pub mod LengthLaws
-pub mod Taking
-pub mod Filling
-pub mod Told
-pub mod RoundTrip
-pub mod FileLaws
-pub mod FaultLaws
-pub mod NumberSteps
-pub mod ReadingSteps
-pub mod LinksSteps
-pub mod WritingSteps
+-- what contracts of the code cite
+pub mod code
+-- worked examples: the readings of files
+pub mod examples
+-- lemmas
+pub mod laws

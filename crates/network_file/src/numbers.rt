@@ -1,12 +1,17 @@
-// Numbers of a file: groups of seven bits, lowest first, one byte a group, the top bit set in all but the last byte, in the fewest groups.
+// Numbers of a file: groups of seven bits, lowest first, one byte a group, the top bit set in all but the last byte, in
+// the fewest groups.
 use crate::Number;
+use network::ENDS_EARLY;
 use network::MAX_GROUPS;
+use network::NUMBER_TOO_LONG;
+use network::ZERO_GROUP;
 ghost use lib.ListN.{length};
 ghost use lib.Seq.{sets};
 ghost use mathlib.Core.Path.{_≡_};
 ghost use Prim.Native.Nat.{_+_, _-_, _^_, _≤_, _<_};
 ghost use Rattle.network.specs.Limits.{maxGroups};
-ghost use Rattle.network_file.specs.Number.{continued, readGroups, readNumber, groupBytes, numberBytes, valueIn, sizeIn};
+ghost use Rattle.network_file.specs.Number.{continued, readGroups, readNumber, groupBytes, numberBytes, valueIn};
+ghost use Rattle.network_file.specs.Number.{sizeIn};
 
 // The number that byte x, with its top bit set, begins, by what stands behind x.
 fn continued_by(x: u8, rest: Number) -> Number
@@ -17,7 +22,7 @@ fn continued_by(x: u8, rest: Number) -> Number
         Number::Refused(e) => Number::Refused(e),
         Number::Value(v, size) => {
             if v == 0 {
-                return Number::Refused(3);
+                return Number::Refused(ZERO_GROUP);
             }
             Number::Value(x as u32 - 128 + 128 * v, size + 1)
         }
@@ -30,10 +35,10 @@ fn read_groups(s: &[u8], left: usize) -> Number
     ensures { λ r. ⌜ r ≡ readGroups left (now (s .entry)) ⌝ }
 {
     if left == 0 {
-        return Number::Refused(2);
+        return Number::Refused(NUMBER_TOO_LONG);
     }
     if s.len() == 0 {
-        return Number::Refused(1);
+        return Number::Refused(ENDS_EARLY);
     }
     let x = s[0];
     if x < 128 {

@@ -3,35 +3,64 @@ use crate::Link;
 use crate::Number;
 use crate::Progress;
 use crate::Reading;
+use crate::Row;
 use crate::Taken;
 use crate::numbers::read_number;
+use crate::rows::row_number;
+use network::BYTES_FOLLOW;
+use network::LINK_TOO_LARGE;
 use network::MAX_CAPACITY;
 use network::MAX_LINKS;
-use network::MAX_NODES;
 use network::Network;
+use network::TOO_MANY_LINKS;
 ghost use lib.ListN.{length};
 ghost use mathlib.Core.Path.{_≡_};
 ghost use Prim.Native.Nat.{_≤_};
 ghost use Rattle.network.specs.Limits.{maxNodes, maxLinks};
-ghost use Rattle.network_file.specs.Reading.{noRow, taken, noLink, linkAt, stopped, going, unread, readLinks, readAll, readFile};
+ghost use Rattle.network_file.specs.Reading.{noNumber, taken, noLink, linkAt, stopped, going, unread};
+ghost use Rattle.network_file.specs.Reading.{readLinks, readAll, readBy, readFile};
+ghost use Rattle.network_file.specs.code.Rows.{rowOf, takenNext};
 
-// The number in what is left of the file from a place on.
-fn take(file: &[u8], place: usize) -> Taken
+fn not_taken(number: u32, place: usize) -> Taken
+    ensures { λ r. ⌜ r ≡ noNumber number place ⌝ }
+{
+    Taken {
+        number,
+        value: 0,
+        next: place,
+    }
+}
+
+// The number in what is left of the file from a place on, by its row.
+fn take(file: &[u8], place: usize, row: Row) -> Taken
     requires { ⌜ place ≤ length (now file) ⌝ }
-    ensures { λ r. ⌜ r ≡ taken (now (file .entry)) place noRow ⌝ }
+    ensures { λ r. ⌜ r ≡ taken (now (file .entry)) place (rowOf row) ⌝ }
 {
     match read_number(&file[place..]) {
-        Number::Refused(e) => Taken {
-            number: e,
-            value: 0,
-            next: place,
-        },
-        Number::Value(v, size) => Taken {
-            number: 0,
-            value: v,
-            next: place + size,
-        },
+        Number::Refused(e) => not_taken(e, place),
+        Number::Value(v, size) => {
+            let e = row_number(row, v);
+            if e != 0 {
+                return not_taken(e, place);
+            }
+            Taken {
+                number: 0,
+                value: v,
+                next: place + size,
+            }
+        }
     }
+}
+
+// The number behind one that was taken; a stop stays.
+fn take_next(file: &[u8], t: Taken, row: Row) -> Taken
+    requires { ⌜ t .next ≤ length (now file) ⌝ }
+    ensures { λ r. ⌜ r ≡ takenNext (now (file .entry)) t (rowOf row) ⌝ }
+{
+    if t.number != 0 {
+        return t;
+    }
+    take(file, t.next, row)
 }
 
 fn no_link(number: u32, place: usize) -> Link
@@ -46,34 +75,16 @@ fn no_link(number: u32, place: usize) -> Link
     }
 }
 
-// The link at a place, of a network of n nodes.
-fn read_link(file: &[u8], place: usize, n: usize) -> Link
+// The link at a place, of a network of n nodes; its third number passes the row given.
+fn read_link(file: &[u8], place: usize, n: usize, third: Row) -> Link
     requires { ⌜ (place ≤ length (now file)) × (n ≤ maxNodes) ⌝ }
-    ensures { λ r. ⌜ r ≡ linkAt (now (file .entry)) place n ⌝ }
+    ensures { λ r. ⌜ r ≡ linkAt (rowOf third) (now (file .entry)) place n ⌝ }
 {
-    let a = take(file, place);
-    if a.number != 0 {
-        return no_link(a.number, place);
-    }
-    if a.value as usize >= n {
-        return no_link(6, place);
-    }
-    let b = take(file, a.next);
-    if b.number != 0 {
-        return no_link(b.number, a.next);
-    }
-    if b.value as usize >= n {
-        return no_link(6, a.next);
-    }
-    if b.value == a.value {
-        return no_link(7, a.next);
-    }
-    let c = take(file, b.next);
+    let a = take(file, place, Row::End { n });
+    let b = take_next(file, a, Row::OtherEnd { n, a: a.value });
+    let c = take_next(file, b, third);
     if c.number != 0 {
-        return no_link(c.number, b.next);
-    }
-    if c.value > MAX_CAPACITY {
-        return no_link(8, b.next);
+        return no_link(c.number, c.next);
     }
     Link {
         number: 0,
@@ -102,16 +113,16 @@ fn stopped_at(number: u32, place: usize) -> Progress
 }
 
 // The m links from a place on, of a network of n nodes.
-fn read_links(file: &[u8], n: usize, m: usize, place: usize) -> Progress
+fn read_links(file: &[u8], n: usize, m: usize, place: usize, third: Row) -> Progress
     requires { ⌜ (place ≤ length (now file)) × (n ≤ maxNodes) × (m ≤ maxLinks) ⌝ }
-    ensures { λ r. ⌜ r ≡ readLinks (now (file .entry)) m (going place (unread n m)) ⌝ }
+    ensures { λ r. ⌜ r ≡ readLinks (rowOf third) (now (file .entry)) m (going place (unread n m)) ⌝ }
 {
     let mut a = [0u8; MAX_LINKS];
     let mut b = [0u8; MAX_LINKS];
     let mut capacity = [0u32; MAX_LINKS];
     let mut next = place;
     for k in 0..m {
-        let link = read_link(file, next, n);
+        let link = read_link(file, next, n, third);
         if link.number != 0 {
             return stopped_at(link.number, link.place);
         }
@@ -135,41 +146,33 @@ fn read_links(file: &[u8], n: usize, m: usize, place: usize) -> Progress
 }
 
 // The whole file.
-fn read_all(file: &[u8]) -> Progress
-    ensures { λ r. ⌜ r ≡ readAll (now (file .entry)) ⌝ }
+fn read_all(file: &[u8], third: Row) -> Progress
+    ensures { λ r. ⌜ r ≡ readAll (rowOf third) (now (file .entry)) ⌝ }
 {
-    let n = take(file, 0);
-    if n.number != 0 {
-        return stopped_at(n.number, 0);
-    }
-    if n.value == 0 {
-        return stopped_at(4, 0);
-    }
-    if n.value as usize > MAX_NODES {
-        return stopped_at(4, 0);
-    }
-    let m = take(file, n.next);
+    let n = take(file, 0, Row::Nodes);
+    let links_row = Row::AtMost {
+        most: MAX_LINKS as u32,
+        number: TOO_MANY_LINKS,
+    };
+    let m = take_next(file, n, links_row);
     if m.number != 0 {
-        return stopped_at(m.number, n.next);
+        return stopped_at(m.number, m.next);
     }
-    if m.value as usize > MAX_LINKS {
-        return stopped_at(5, n.next);
-    }
-    let p = read_links(file, n.value as usize, m.value as usize, m.next);
+    let p = read_links(file, n.value as usize, m.value as usize, m.next, third);
     if p.number != 0 {
         return p;
     }
     if p.place < file.len() {
-        return stopped_at(9, p.place);
+        return stopped_at(BYTES_FOLLOW, p.place);
     }
     p
 }
 
-// Reads a file: the number and the place of its fault, beside a network of all zeros; or 0, 0 and its network.
-pub fn read(file: &[u8]) -> Reading
-    ensures { λ r. ⌜ r ≡ readFile (now (file .entry)) ⌝ }
+// What a file reads as, where the third number of a link passes the row given.
+fn read_by(file: &[u8], third: Row) -> Reading
+    ensures { λ r. ⌜ r ≡ readBy (rowOf third) (now (file .entry)) ⌝ }
 {
-    let p = read_all(file);
+    let p = read_all(file, third);
     let network = p.network;
     if p.number == 0 {
         return Reading {
@@ -183,4 +186,15 @@ pub fn read(file: &[u8]) -> Reading
         place: p.place,
         network,
     }
+}
+
+// Reads a file: the number and the place of its fault, beside a network of all zeros; or 0, 0 and its network.
+pub fn read(file: &[u8]) -> Reading
+    ensures { λ r. ⌜ r ≡ readFile (now (file .entry)) ⌝ }
+{
+    let capacity_row = Row::AtMost {
+        most: MAX_CAPACITY,
+        number: LINK_TOO_LARGE,
+    };
+    read_by(file, capacity_row)
 }

@@ -2,6 +2,7 @@
 use crate::FileWritten;
 use crate::numbers::number_length;
 use crate::numbers::write_number;
+use network::BUFFER_TOO_SHORT;
 use network::Network;
 ghost use lib.ListN.{length};
 ghost use lib.Seq.{sets};
@@ -71,7 +72,7 @@ pub fn write(net: Network, out: &mut [u8]) -> FileWritten
     let length = file_length(net);
     if out.len() < length {
         return FileWritten {
-            number: 18,
+            number: BUFFER_TOO_SHORT,
             length: 0,
         };
     }

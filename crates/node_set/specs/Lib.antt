@@ -1,5 +1,8 @@
+-- definitions: sets of nodes as words
 pub mod Set
-pub mod BitLaws
-pub mod SetLaws
-pub mod SizeLaws
-pub mod Examples
+-- what is shown: which nodes are in the set that an operation gives
+pub mod Members
+-- worked examples
+pub mod examples
+-- lemmas
+pub mod laws

@@ -1,12 +1,13 @@
--- Sets of at most 64 nodes as words: node i is in a set where bit i of its word is 1 (`holds`). A side (document 01) is such a set.
+-- Sets of at most 64 nodes as words: node i is in a set where bit i of its word is 1 (`holds`). A side (docs/SCOPE.md,
+-- 3) is such a set.
 use Prim.Native.Nat.{ℕ, _-_, _^_, _<_}
 use mathlib.Core.Path.{_≡_}
 use mathlib.Core.Bool.{Bool, true, false}
 use lib.Bits.{bitAnd, bitOr, bitXor}
 use lib.Count.{ones}
 use lib.Dec.{eqb}
-use Rattle.min_cut.specs.Sum.{sum}
-use Rattle.min_cut.specs.Word.{bit, holds}
+use Rattle.base.specs.Sum.{sum}
+use Rattle.base.specs.Word.{bit, holds}
 
 -- how many nodes a word has room for
 abbrev pub width : ℕ

@@ -1,9 +1,10 @@
-// Sets of at most 64 nodes, each a word with bit i for node i (document 01, "Splits and flows"). Each contract is the
+// Sets of at most 64 nodes, each a word with bit i for node i (docs/SCOPE.md, 3). Each contract is the
 // definition of the same name in specs/Set.antt.
 ghost use mathlib.Core.Path.{_≡_};
-ghost use Prim.Native.Nat.{ℕ, _^_, _<_, _≤_};
-ghost use Rattle.min_cut.specs.Word.{holds};
-ghost use Rattle.node_set.specs.Set.{width, empty, single, added, removed, union, intersection, difference, allBelow, complementIn, included};
+ghost use Prim.Native.Nat.{_^_, _<_, _≤_};
+ghost use Rattle.base.specs.Word.{holds};
+ghost use Rattle.node_set.specs.Set.{width, empty, single, added, removed, union, intersection, difference};
+ghost use Rattle.node_set.specs.Set.{allBelow, complementIn, included};
 ghost use Rattle.node_set.specs.Set.{Lowest, Counted};
 
 // how many nodes a word has room for, and the word of them all

@@ -1,5 +1,6 @@
-// The program of document 01: it takes a network file on standard input and prints its cut tree and every pair, or why it is refused. What is
-// printed is `listing`'s contract; that 1,284 bytes of a longer input are listed as the whole is `listing-front` there.
+// The program `pairs` (docs/SCOPE.md, 6): it takes a network file on standard input and prints its cut tree and every
+// pair, or why it is refused. What is printed is `listing`'s contract; that 1,284 bytes of a longer input are listed as
+// the whole is `listing-front` there.
 use listing::MAX_LISTING;
 use listing::MAX_READ;
 

@@ -1,4 +1,4 @@
--- The calls of document 01 as functions on records, their refusals in the order of its table.
+-- The calls (docs/SCOPE.md, 6) as functions on records, their refusals in the order of its table.
 use Prim.Native.Nat.{ℕ, _-_}
 use mathlib.Core.Path.{_≡_}
 use mathlib.Core.Logic.{_≢_}
@@ -8,8 +8,8 @@ use lib.ListN.{length, replicate}
 use lib.Seq.{sets}
 use lib.Dec.{ltb, eqb}
 use lib.IntN.{ℤ, pos, _-ℤ_}
-use Rattle.network.specs.Basics.{at}
-use Rattle.network.specs.Checks.{Row, row, chain, accepted}
+use Rattle.base.specs.Basics.{at}
+use Rattle.base.specs.Checks.{Row, row, chain, accepted}
 use Rattle.network.specs.Limits.{maxCapacity}
 use Rattle.network.specs.Network.{withCapacity, minCutValue, LawfulFlow, totalOf}
 use Rattle.network.specs.declared.Network.{Network}
@@ -21,7 +21,9 @@ use Rattle.cut_tree.specs.Rebuild.{rebuilt}
 use Rattle.cut_tree.specs.Path.{pairRows, answer, weightOf}
 use Rattle.cut_tree.specs.declared.PairAnswer.{PairAnswer}
 use Rattle.cut_tree.specs.declared.PairAnswer.the-variants.{Refused}
-use Rattle.plan.specs.Plan.{maxDepth, sound, push, pop, noStack, noPlan}
+use Rattle.network.specs.Refusals.{noSuchLink, capacityTooLarge, stackFull, nothingToUndo, flowLength}
+use Rattle.network.specs.Refusals.{demandTooLarge, bufferTooShort, notSound}
+use Rattle.plan.specs.Plan.{maxDepth, sound, push, pop, planOf, noStack, noPlan}
 use Rattle.text.specs.Text.{textWidth, textOf}
 use Rattle.plan.specs.declared.Stack.{Stack}
 use Rattle.plan.specs.declared.Plan.{Plan}
@@ -37,12 +39,14 @@ maxDemand = 1000000000
 -- ---- opening
 -- the plan of a network: the rule's tree and steps, and an empty stack
 abbrev pub fresh : Network → Plan
-fresh net = record { network = net; tree = rule net .tree; steps = rule net .steps; stack = noStack }
+fresh net = planOf net (rule net .tree) (rule net .steps) noStack
+
+-- refused: number and place of the fault
+abbrev pub notOpened : (place number : ℕ) → Opening
+notOpened place number = record { number = number; place = place; plan = noPlan }
 
 abbrev pub opened : Reading → Opening
-opened r =
-    accepted (r .number) (record { number = 0; place = 0; plan = fresh (r .network) })
-    (λ e. record { number = e; place = r .place; plan = noPlan })
+opened r = accepted (r .number) (record { number = 0; place = 0; plan = fresh (r .network) }) (notOpened (r .place))
 
 unfoldable pub openOf : List ℕ → Opening
 openOf file = opened (readFile file)
@@ -50,14 +54,18 @@ openOf file = opened (readFile file)
 -- ---- change and undo (the paper: take-back)
 -- every call on a plan, first
 abbrev pub unsound : Plan → Row
-unsound p = row (not (sound p)) 19
+unsound p = row (not (sound p)) notSound
 
 abbrev pub changeRows : Plan → ℕ → ℕ → List Row
 changeRows p k c =
-    unsound p ∷ row (not (ltb k (p .network .links))) 10 ∷ row (ltb maxCapacity c) 11 ∷ row (eqb (p .stack .depth) maxDepth) 12 ∷ []
+    unsound p
+    ∷ row (not (ltb k (p .network .links))) noSuchLink
+    ∷ row (ltb maxCapacity c) capacityTooLarge
+    ∷ row (eqb (p .stack .depth) maxDepth) stackFull
+    ∷ []
 
 abbrev pub undoRows : Plan → List Row
-undoRows p = unsound p ∷ row (eqb (p .stack .depth) 0) 13 ∷ []
+undoRows p = unsound p ∷ row (eqb (p .stack .depth) 0) nothingToUndo ∷ []
 
 unfoldable pub changeNumber : Plan → ℕ → ℕ → ℕ
 changeNumber p k c = chain (changeRows p k c)
@@ -69,7 +77,7 @@ undoNumber p = chain (undoRows p)
 unfoldable pub altered : Plan → ℕ → ℕ → Stack → Changed
 altered p k c stack =
     let b = rebuilt (p .network) (p .steps) k c in
-    record { number = 0; count = b .count; plan = record { network = withCapacity (p .network) k c; tree = b .tree; steps = b .steps; stack = stack } }
+    record { number = 0; count = b .count; plan = planOf (withCapacity (p .network) k c) (b .tree) (b .steps) stack }
 
 abbrev pub unaltered : Plan → ℕ → Changed
 unaltered p e = record { number = e; count = 0; plan = p }
@@ -80,7 +88,9 @@ changed p k c = altered p k c (push (p .stack) k (at (p .network .capacity) k))
 
 -- an accepted undo is the same work towards the capacity on top of the stack
 abbrev pub undone : Plan → Changed
-undone p = altered p (at (p .stack .link) (p .stack .depth - 1)) (at (p .stack .capacity) (p .stack .depth - 1)) (pop (p .stack))
+undone p =
+    let top = p .stack .depth - 1 in
+    altered p (at (p .stack .link) top) (at (p .stack .capacity) top) (pop (p .stack))
 
 unfoldable pub changeOf : Plan → ℕ → ℕ → Changed
 changeOf p k c = accepted (changeNumber p k c) (changed p k c) (unaltered p)
@@ -101,12 +111,13 @@ pairOf p s t = accepted (pairNumber p s t) (answer (p .tree) (p .network .nodes)
 
 -- ---- flow
 abbrev pub flowRows : Plan → (s t size : ℕ) → List Row
-flowRows p s t size = nodeRows p s t (row (not (eqb size (p .network .links))) 16 ∷ [])
+flowRows p s t size = nodeRows p s t (row (not (eqb size (p .network .links))) flowLength ∷ [])
 
 unfoldable pub flowNumber : Plan → ℕ → ℕ → ℕ → ℕ
 flowNumber p s t size = chain (flowRows p s t size)
 
--- what the flow call promises: its number, and the buffer before and after. Which lawful flow of that total it is, is left open.
+-- what the flow call promises: its number, and the buffer before and after. Which lawful flow of that total it is, is
+-- left open.
 pub record Flowed (p : Plan) (s t : ℕ) (before : List ℤ) (number : ℕ) (behind : List ℤ) : Type 0 where
   pub number-is : number ≡ flowNumber p s t (length before)
   pub lawful : number ≡ 0 → LawfulFlow (p .network) s t behind
@@ -115,7 +126,7 @@ pub record Flowed (p : Plan) (s t : ℕ) (before : List ℤ) (number : ℕ) (beh
 
 -- ---- headroom
 abbrev pub headroomRows : Plan → (s t demand : ℕ) → List Row
-headroomRows p s t demand = nodeRows p s t (row (ltb maxDemand demand) 17 ∷ [])
+headroomRows p s t demand = nodeRows p s t (row (ltb maxDemand demand) demandTooLarge ∷ [])
 
 unfoldable pub headroomNumber : Plan → ℕ → ℕ → ℕ → ℕ
 headroomNumber p s t demand = chain (headroomRows p s t demand)
@@ -123,22 +134,28 @@ headroomNumber p s t demand = chain (headroomRows p s t demand)
 abbrev pub headroomBy : ℤ → HeadroomReply
 headroomBy z = record { number = 0; value = z; text = textOf z }
 
--- the pair's weight less the demand; 0 and spaces beside a refusal
+-- refused: 0 and spaces
+abbrev pub noHeadroom : (number : ℕ) → HeadroomReply
+noHeadroom number = record { number = number; value = pos 0; text = replicate textWidth 32 }
+
+-- the pair's weight less the demand
 unfoldable pub headroomOf : Plan → ℕ → ℕ → ℕ → HeadroomReply
 headroomOf p s t demand =
-    accepted (headroomNumber p s t demand) (headroomBy (pos (weightOf (answer (p .tree) (p .network .nodes) s t)) -ℤ pos demand))
-    (λ e. record { number = e; value = pos 0; text = replicate textWidth 32 })
+    let weight = weightOf (answer (p .tree) (p .network .nodes) s t) in
+    accepted (headroomNumber p s t demand) (headroomBy (pos weight -ℤ pos demand)) noHeadroom
 
 -- ---- writing: the reply, and the buffer behind it
 abbrev pub writeRows : Plan → ℕ → List Row
-writeRows p size = unsound p ∷ row (ltb size (length (fileOf (p .network)))) 18 ∷ []
+writeRows p size = unsound p ∷ row (ltb size (length (fileOf (p .network)))) bufferTooShort ∷ []
 
 unfoldable pub writeNumber : Plan → ℕ → ℕ
 writeNumber p size = chain (writeRows p size)
 
+abbrev pub notWritten : (number : ℕ) → Written
+notWritten number = record { number = number; length = 0 }
+
 unfoldable pub writeOf : Plan → ℕ → Written
-writeOf p size =
-    accepted (writeNumber p size) (record { number = 0; length = length (fileOf (p .network)) }) (λ e. record { number = e; length = 0 })
+writeOf p size = accepted (writeNumber p size) (record { number = 0; length = length (fileOf (p .network)) }) notWritten
 
 unfoldable pub writtenTo : Plan → List ℕ → List ℕ
 writtenTo p buffer = accepted (writeNumber p (length buffer)) (sets buffer 0 (fileOf (p .network))) (λ e. buffer)

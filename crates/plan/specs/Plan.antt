@@ -1,14 +1,16 @@
--- "The plan": the record, its soundness (number 19) exactly as document 01 lists it, the plan of all zeros, the stack pushed and popped.
--- This tests shape only: that a tree is the network's cut tree is said of plans reached from an opening.
+-- "The plan": the record, its soundness (number 19) exactly as docs/SCOPE.md, 7 lists it, the plan of all zeros, the
+-- stack pushed and popped. This tests shape only: that a tree is the network's cut tree is said of plans reached from
+-- an opening.
 use Prim.Native.Nat.{ℕ, zero, suc, _+_, _-_, _^_}
 use mathlib.Core.Bool.{Bool, not}
 use mathlib.Core.List.{[], _∷_}
 use lib.ListN.{set, replicate}
 use lib.Dec.{ltb, leb, eqb}
-use Rattle.min_cut.specs.Word.{holds}
-use Rattle.network.specs.Basics.{at, all, every, blankFrom}
+use Rattle.base.specs.Word.{holds}
+use Rattle.base.specs.Basics.{at, all, every, blankFrom}
 use Rattle.network.specs.Limits.{maxCapacity, maxValue}
 use Rattle.network.specs.Network.{networkFits, noNetwork}
+use Rattle.network.specs.declared.Network.{Network}
 use Rattle.cut_tree.specs.Rule.{noTree, noSteps}
 use Rattle.cut_tree.specs.Path.{maxClimb, reaches}
 use Rattle.cut_tree.specs.declared.Tree.{Tree}
@@ -36,7 +38,8 @@ treeFits n tree =
 
 -- step s: its side holds s, not its pivot, and no node from n on; node 0's step is all 0
 abbrev pub stepFits : ℕ → Steps → ℕ → Bool
-stepFits n steps zero = every (eqb (at (steps .pivot) 0) 0 ∷ eqb (at (steps .side) 0) 0 ∷ eqb (at (steps .value) 0) 0 ∷ [])
+stepFits n steps zero =
+    every (eqb (at (steps .pivot) 0) 0 ∷ eqb (at (steps .side) 0) 0 ∷ eqb (at (steps .value) 0) 0 ∷ [])
 stepFits n steps (suc s) =
     every (
     ltb (at (steps .pivot) (suc s)) n
@@ -47,7 +50,9 @@ stepFits n steps (suc s) =
     ∷ [])
 
 unfoldable pub stepsFit : ℕ → Steps → Bool
-stepsFit n steps = every (all n (stepFits n steps) ∷ blankFrom n (steps .pivot) ∷ blankFrom n (steps .side) ∷ blankFrom n (steps .value) ∷ [])
+stepsFit n steps =
+    every (all n (stepFits n steps) ∷ blankFrom n (steps .pivot) ∷ blankFrom n (steps .side)
+    ∷ blankFrom n (steps .value) ∷ [])
 
 abbrev pub entryFits : ℕ → Stack → ℕ → Bool
 entryFits m stack i = every (ltb (at (stack .link) i) m ∷ leb (at (stack .capacity) i) maxCapacity ∷ [])
@@ -75,12 +80,24 @@ abbrev pub noStack : Stack
 noStack = record { depth = 0; link = replicate maxDepth 0; capacity = replicate maxDepth 0 }
 
 abbrev pub push : Stack → ℕ → ℕ → Stack
-push stack k c = record { depth = stack .depth + 1; link = set (stack .link) (stack .depth) k; capacity = set (stack .capacity) (stack .depth) c }
+push stack k c = record {
+  depth = stack .depth + 1;
+  link = set (stack .link) (stack .depth) k;
+  capacity = set (stack .capacity) (stack .depth) c;
+}
 
 abbrev pub pop : Stack → Stack
 pop stack =
-    record { depth = stack .depth - 1; link = set (stack .link) (stack .depth - 1) 0; capacity = set (stack .capacity) (stack .depth - 1) 0 }
+    record {
+      depth = stack .depth - 1;
+      link = set (stack .link) (stack .depth - 1) 0;
+      capacity = set (stack .capacity) (stack .depth - 1) 0;
+    }
+
+-- ---- the record, from its parts
+abbrev pub planOf : Network → Tree → Steps → Stack → Plan
+planOf network tree steps stack = record { network = network; tree = tree; steps = steps; stack = stack }
 
 -- all zeros: what stands beside a refused opening
 abbrev pub noPlan : Plan
-noPlan = record { network = noNetwork; tree = noTree; steps = noSteps; stack = noStack }
+noPlan = planOf noNetwork noTree noSteps noStack

@@ -1,14 +1,16 @@
-// Pairs and headrooms (document 01, "Pair, flow, writing" and "Headroom").
+// Pairs and headrooms (docs/SCOPE.md, 6).
 use crate::HeadroomReply;
 use crate::Plan;
 use crate::sound::is_sound;
 use cut_tree::PairAnswer;
+use network::DEMAND_TOO_LARGE;
+use network::NOT_SOUND;
+use text::TEXT_WIDTH;
 ghost use lib.IntN.{pos, _-ℤ_};
 ghost use mathlib.Core.Path.{_≡_};
 ghost use Prim.Native.Nat.{_≤_};
 ghost use Rattle.network.specs.Limits.{maxValue};
-ghost use Rattle.plan.specs.CallParts.{refusedHeadroom};
-ghost use Rattle.plan.specs.Calls.{maxDemand, pairOf, headroomBy, headroomOf};
+ghost use Rattle.plan.specs.Calls.{maxDemand, pairOf, headroomBy, noHeadroom, headroomOf};
 
 // the highest demand (the paper: need) of a headroom
 pub const MAX_DEMAND: u32 = 1_000_000_000;
@@ -18,19 +20,19 @@ pub fn pair(p: Plan, s: usize, t: usize) -> PairAnswer
     ensures { λ r. ⌜ r ≡ pairOf p s t ⌝ }
 {
     if !is_sound(p) {
-        return PairAnswer::Refused(19);
+        return PairAnswer::Refused(NOT_SOUND);
     }
     cut_tree::query(p.tree, p.network.nodes, s, t)
 }
 
 // What a refusal gives: its number beside 0 and spaces.
-fn refused_headroom(number: u32) -> HeadroomReply
-    ensures { λ r. ⌜ r ≡ refusedHeadroom number ⌝ }
+fn no_headroom(number: u32) -> HeadroomReply
+    ensures { λ r. ⌜ r ≡ noHeadroom number ⌝ }
 {
     HeadroomReply {
         number,
         value: 0,
-        text: [32; 12],
+        text: [32; TEXT_WIDTH],
     }
 }
 
@@ -53,7 +55,7 @@ pub fn headroom(p: Plan, s: usize, t: usize, demand: u32) -> HeadroomReply
 {
     let answer = pair(p, s, t);
     match answer {
-        PairAnswer::Refused(number) => refused_headroom(number),
+        PairAnswer::Refused(number) => no_headroom(number),
         PairAnswer::Found {
             weight,
             node: _,
@@ -61,7 +63,7 @@ pub fn headroom(p: Plan, s: usize, t: usize, demand: u32) -> HeadroomReply
             size: _,
         } => {
             if demand > MAX_DEMAND {
-                refused_headroom(17)
+                no_headroom(DEMAND_TOO_LARGE)
             } else {
                 headroom_by(weight, demand)
             }

@@ -1,12 +1,13 @@
-// Changes of a capacity, and their undoing (document 01, "The plan and its changes").
+// Changes of a capacity, and their undoing (docs/SCOPE.md, 5).
 use crate::Changed;
 use crate::Plan;
 use crate::Stack;
 use crate::checks::change_number;
 use crate::checks::undo_number;
 use crate::entries;
+use crate::files::plan_of;
 ghost use mathlib.Core.Path.{_≡_};
-ghost use Rattle.cut_tree.specs.RebuildParts.{Changes};
+ghost use Rattle.cut_tree.specs.code.RebuildParts.{Changes};
 ghost use Rattle.plan.specs.Calls.{altered, unaltered, changeOf, undoOf};
 
 // What a refusal gives: its number beside the plan as it was.
@@ -32,12 +33,7 @@ fn altered(p: Plan, k: usize, c: u32, stack: Stack) -> Changed
     network.capacity[k] = c;
     let tree = built.tree;
     let steps = built.steps;
-    let plan = Plan {
-        network,
-        tree,
-        steps,
-        stack,
-    };
+    let plan = plan_of(network, tree, steps, stack);
     Changed {
         number: 0,
         count: built.count,

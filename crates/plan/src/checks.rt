@@ -2,7 +2,12 @@
 use crate::MAX_DEPTH;
 use crate::Plan;
 use crate::sound::is_sound;
+use network::CAPACITY_TOO_LARGE;
 use network::MAX_CAPACITY;
+use network::NO_SUCH_LINK;
+use network::NOT_SOUND;
+use network::NOTHING_TO_UNDO;
+use network::STACK_FULL;
 ghost use mathlib.Core.Path.{_≡_};
 ghost use Rattle.plan.specs.Calls.{changeNumber, undoNumber};
 
@@ -10,16 +15,16 @@ pub fn change_number(p: Plan, k: usize, c: u32) -> u32
     ensures { λ r. ⌜ r ≡ changeNumber p k c ⌝ }
 {
     if !is_sound(p) {
-        return 19;
+        return NOT_SOUND;
     }
     if k >= p.network.links {
-        return 10;
+        return NO_SUCH_LINK;
     }
     if c > MAX_CAPACITY {
-        return 11;
+        return CAPACITY_TOO_LARGE;
     }
     if p.stack.depth == MAX_DEPTH {
-        return 12;
+        return STACK_FULL;
     }
     0
 }
@@ -28,10 +33,10 @@ pub fn undo_number(p: Plan) -> u32
     ensures { λ r. ⌜ r ≡ undoNumber p ⌝ }
 {
     if !is_sound(p) {
-        return 19;
+        return NOT_SOUND;
     }
     if p.stack.depth == 0 {
-        return 13;
+        return NOTHING_TO_UNDO;
     }
     0
 }

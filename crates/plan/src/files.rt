@@ -1,6 +1,7 @@
 // A plan opened from a network's file, and the file written back.
 use crate::Opening;
 use crate::Plan;
+use crate::Stack;
 use crate::Written;
 use crate::entries;
 use crate::sound::is_sound;
@@ -8,13 +9,14 @@ use cut_tree::Steps;
 use cut_tree::Tree;
 use network::MAX_LINKS;
 use network::MAX_NODES;
+use network::NOT_SOUND;
 use network::Network;
 ghost use lib.ListN.{length};
 ghost use mathlib.Core.Bool.{true};
 ghost use mathlib.Core.Path.{_≡_};
 ghost use Rattle.network.specs.Network.{networkFits};
 ghost use Rattle.plan.specs.Calls.{fresh, openOf, writeOf, writtenTo};
-ghost use Rattle.plan.specs.Plan.{noPlan};
+ghost use Rattle.plan.specs.Plan.{noPlan, planOf};
 
 // All zeros: what stands beside a refused file.
 fn no_plan() -> Plan
@@ -41,6 +43,18 @@ fn no_plan() -> Plan
     }
 }
 
+// A plan from its parts.
+pub fn plan_of(network: Network, tree: Tree, steps: Steps, stack: Stack) -> Plan
+    ensures { λ r. ⌜ r ≡ planOf network tree steps stack ⌝ }
+{
+    Plan {
+        network,
+        tree,
+        steps,
+        stack,
+    }
+}
+
 // The plan of a network, with an empty stack.
 fn fresh(net: Network) -> Plan
     requires { ⌜ networkFits net ≡ true ⌝ }
@@ -49,13 +63,7 @@ fn fresh(net: Network) -> Plan
     let built = cut_tree::build(net);
     let tree = built.tree;
     let steps = built.steps;
-    let stack = entries::empty();
-    Plan {
-        network: net,
-        tree,
-        steps,
-        stack,
-    }
+    plan_of(net, tree, steps, entries::empty())
 }
 
 // Reads a file and builds its plan; or gives the number and the place of its fault.
@@ -86,7 +94,7 @@ pub fn write(p: Plan, out: &mut [u8]) -> Written
 {
     if !is_sound(p) {
         return Written {
-            number: 19,
+            number: NOT_SOUND,
             length: 0,
         };
     }

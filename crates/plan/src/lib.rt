@@ -1,5 +1,5 @@
-// The link plan of document 01: a network with its cut tree and the changes that can be undone. Each call's contract is the definition of
-// its name in specs/Calls.antt, and holds of every input.
+// The link plan (docs/SCOPE.md): a network with its cut tree and the changes that can be undone. Each call's contract
+// is the definition of its name in specs/Calls.antt, and holds of every input.
 mod answers; // pairs and headrooms
 mod changes; // change and undo
 mod checks; // refusals of change and undo
@@ -19,11 +19,13 @@ pub use crate::flows::flow;
 use cut_tree::Steps;
 use cut_tree::Tree;
 use network::Network;
+use text::TEXT_WIDTH;
 
 // entries of the stack
 pub const MAX_DEPTH: usize = 64;
 
-// Changes that can be undone: entry i is a link and the capacity that it had before; the top is entry depth - 1. Unused places are 0.
+// Changes that can be undone: entry i is a link and the capacity that it had before; the top is entry depth - 1. Unused
+// places are 0.
 #[repr(C)]
 pub struct Stack {
     pub depth: usize,
@@ -58,7 +60,7 @@ pub struct Changed {
 pub struct HeadroomReply {
     pub number: u32,
     pub value: i32,
-    pub text: [u8; 12],
+    pub text: [u8; TEXT_WIDTH],
 }
 
 pub struct Written {

@@ -1,5 +1,5 @@
-// Whether a plan, whatever it holds, is sound (document 01, "The plan and its changes"; number 19). Every call on a plan asks it first, so
-// the tests go over the arrays once each.
+// Whether a plan, whatever it holds, is sound (docs/SCOPE.md, 7; number 19). Every call on a
+// plan asks it first, so the tests go over the arrays once each.
 use crate::MAX_DEPTH;
 use crate::Plan;
 use crate::Stack;
@@ -7,15 +7,17 @@ use cut_tree::MAX_CLIMB;
 use cut_tree::Steps;
 use cut_tree::Tree;
 use network::MAX_CAPACITY;
+use network::MAX_NODES;
 use network::MAX_VALUE;
 ghost use lib.Dec.{ltb};
 ghost use mathlib.Core.Bool.{true};
 ghost use mathlib.Core.Path.{_≡_};
 ghost use Prim.Native.Nat.{_<_, _≤_};
-ghost use Rattle.network.specs.Basics.{all};
+ghost use Rattle.base.specs.Basics.{all};
 ghost use Rattle.network.specs.Limits.{maxNodes};
 ghost use Rattle.plan.specs.Plan.{maxDepth, treeFits, stepFits, stepsFit, entryFits, stackFits, sound};
-ghost use Rattle.plan.specs.SoundParts.{parentsWithin, weightsWithin, rooted, rootStepWithin, stepWithin, entryWithin};
+ghost use Rattle.plan.specs.code.SoundParts.{parentsWithin, weightsWithin, rooted, rootStepWithin, stepWithin};
+ghost use Rattle.plan.specs.code.SoundParts.{entryWithin};
 
 fn is_node(i: u8, n: usize) -> bool
     ensures { λ r. ⌜ r ≡ ltb i n ⌝ }
@@ -23,7 +25,7 @@ fn is_node(i: u8, n: usize) -> bool
     (i as usize) < n
 }
 
-fn parents_within(parent: &[u8; 64], n: usize) -> bool
+fn parents_within(parent: &[u8; MAX_NODES], n: usize) -> bool
     requires { ⌜ n ≤ maxNodes ⌝ }
     ensures { λ r. ⌜ r ≡ parentsWithin n (now (parent .entry)) ⌝ }
 {
@@ -35,7 +37,7 @@ fn parents_within(parent: &[u8; 64], n: usize) -> bool
     true
 }
 
-fn weights_within(weight: &[u32; 64], n: usize) -> bool
+fn weights_within(weight: &[u32; MAX_NODES], n: usize) -> bool
     requires { ⌜ n ≤ maxNodes ⌝ }
     ensures { λ r. ⌜ r ≡ weightsWithin n (now (weight .entry)) ⌝ }
 {
@@ -47,7 +49,7 @@ fn weights_within(weight: &[u32; 64], n: usize) -> bool
     true
 }
 
-fn rooted(parent: &[u8; 64], n: usize) -> bool
+fn rooted(parent: &[u8; MAX_NODES], n: usize) -> bool
     requires { ⌜ (n ≤ maxNodes) × (parentsWithin n (now parent) ≡ true) ⌝ }
     ensures { λ r. ⌜ r ≡ rooted n (now (parent .entry)) ⌝ }
 {

@@ -1,5 +1,6 @@
-// The command `bend FIELD PLACE VALUE`, which sets one number of the plan by hand. Of the field only the first letter counts:
-// nodes, links, end (b of a link), capacity; parent, weight; hinge (a step's pivot), side, value; depth, undone (link of an entry), before.
+// The command `bend FIELD PLACE VALUE`, which sets one number of the plan by hand. Of the field only the first letter
+// counts: nodes, links, end (b of a link), capacity; parent, weight; hinge (a step's pivot), side, value; depth, undone
+// (link of an entry), before.
 use crate::line::Given;
 use crate::print::put;
 use cut_tree::Steps;

@@ -1,5 +1,6 @@
-// The command `flow S T LENGTH`. Which lawful flow the call gives is free, so what every lawful one of that total has is printed: the
-// balance of each node (what leaves it less what enters it), and how many links carry more than their capacity.
+// The command `flow S T LENGTH`. Which lawful flow the call gives is free, so what every lawful one of that total has
+// is printed: the balance of each node (what leaves it less what enters it), and how many links carry more than their
+// capacity.
 use crate::line::Given;
 use crate::print::put;
 use crate::print::put_number;
@@ -9,7 +10,9 @@ use network::MAX_LINKS;
 use network::Network;
 use plan::Plan;
 
-// What each place of a buffer holds before a call.
+// A buffer has one place more than links: what each holds before a call.
+const PLACES: usize = MAX_LINKS + 1;
+
 const BEFORE: i32 = 7;
 
 // The call, with a buffer of so many numbers.
@@ -53,7 +56,13 @@ fn plus(total: u64, more: u32) -> u64 {
 }
 
 // What leaves node x by link k.
-fn leaving_by(a: &[u8; 256], b: &[u8; 256], flow: &[i32; 257], x: usize, k: usize) -> u32 {
+fn leaving_by(
+    a: &[u8; MAX_LINKS],
+    b: &[u8; MAX_LINKS],
+    flow: &[i32; PLACES],
+    x: usize,
+    k: usize,
+) -> u32 {
     if k < MAX_LINKS {
         return leaving(x, a[k], b[k], flow[k]);
     }
@@ -61,7 +70,13 @@ fn leaving_by(a: &[u8; 256], b: &[u8; 256], flow: &[i32; 257], x: usize, k: usiz
 }
 
 // What leaves node x by m links from a to b; with a and b exchanged, what enters it.
-fn outgoing(a: &[u8; 256], b: &[u8; 256], flow: &[i32; 257], m: usize, x: usize) -> u64 {
+fn outgoing(
+    a: &[u8; MAX_LINKS],
+    b: &[u8; MAX_LINKS],
+    flow: &[i32; PLACES],
+    m: usize,
+    x: usize,
+) -> u64 {
     let mut total = 0;
     for k in 0..m {
         total = plus(total, leaving_by(a, b, flow, x, k));
@@ -69,7 +84,7 @@ fn outgoing(a: &[u8; 256], b: &[u8; 256], flow: &[i32; 257], m: usize, x: usize)
     total
 }
 
-fn put_balance(net: Network, flow: &[i32; 257], x: usize) {
+fn put_balance(net: Network, flow: &[i32; PLACES], x: usize) {
     let a = net.a;
     let b = net.b;
     let leaves = outgoing(&a, &b, flow, net.links, x);
@@ -82,7 +97,7 @@ fn put_balance(net: Network, flow: &[i32; 257], x: usize) {
 }
 
 // Whether link k carries more than its capacity, as 0 or 1.
-fn over(net: Network, flow: &[i32; 257], k: usize) -> u32 {
+fn over(net: Network, flow: &[i32; PLACES], k: usize) -> u32 {
     if k < MAX_LINKS {
         if size(flow[k]) > net.capacity[k] {
             return 1;
@@ -91,7 +106,7 @@ fn over(net: Network, flow: &[i32; 257], k: usize) -> u32 {
     0
 }
 
-fn overfull(net: Network, flow: &[i32; 257]) -> u64 {
+fn overfull(net: Network, flow: &[i32; PLACES]) -> u64 {
     let m = net.links;
     let mut count = 0;
     for k in 0..m {
@@ -100,30 +115,30 @@ fn overfull(net: Network, flow: &[i32; 257]) -> u64 {
     count
 }
 
-fn put_balances(net: Network, flow: &[i32; 257]) {
+fn put_balances(net: Network, flow: &[i32; PLACES]) {
     let n = net.nodes;
     for x in 0..n {
         put_balance(net, flow, x);
     }
 }
 
-fn put_flow(net: Network, flow: &[i32; 257]) {
+fn put_flow(net: Network, flow: &[i32; PLACES]) {
     put(b" balances");
     put_balances(net, flow);
     put_number(b" over ", overfull(net, flow));
 }
 
 // How many places hold what they held before.
-fn unaltered(flow: &[i32; 257]) -> u64 {
+fn unaltered(flow: &[i32; PLACES]) -> u64 {
     let mut count = 0;
-    for k in 0..257 {
+    for k in 0..PLACES {
         count = plus(count, as_before(flow[k]));
     }
     count
 }
 
 pub fn flow(plan: Plan, given: Given) {
-    let mut out = [BEFORE; 257];
+    let mut out = [BEFORE; PLACES];
     let number = flow_into(plan, given, &mut out);
     if number == 0 {
         put_flow(plan.network, &out);

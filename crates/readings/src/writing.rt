@@ -26,7 +26,8 @@ fn put_part(bytes: &[u8], length: usize) {
     }
 }
 
-// `write LENGTH`: the file's length, and of a buffer of at most 24 bytes all that it holds afterwards; before, each is ee.
+// `write LENGTH`: the file's length, and of a buffer of at most 24 bytes all that it holds afterwards; before, each is
+// ee.
 pub fn write(plan: Plan, given: Given) {
     let length = given.first as usize;
     let mut out = [UNWRITTEN; 1300];

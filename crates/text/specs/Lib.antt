@@ -1,5 +1,8 @@
+-- definitions: decimal numbers, and tenths as twelve bytes
 pub mod Text
-pub mod Columns
-pub mod ColumnsLaws
-pub mod TextLaws
-pub mod Examples
+-- what contracts of the code cite: the text filled from the right
+pub mod code
+-- worked examples
+pub mod examples
+-- lemmas
+pub mod laws

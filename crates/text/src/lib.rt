@@ -1,14 +1,23 @@
+// Signed tenths: their difference, sign and size, and their text of twelve bytes. The places before the last three are
+// filled from the right: digits while there are any, then a minus if one is owed, then spaces.
 ghost use lib.IntN.{natAbs, negℤ, pos, _-ℤ_};
 ghost use mathlib.Core.Bool.{false};
 ghost use mathlib.Core.Path.{_≡_};
 ghost use lib.ListN.{length};
 ghost use lib.Seq.{sets};
 ghost use Prim.Native.Nat.{_+_, _<_, _≤_, _^_};
-ghost use Rattle.text.specs.Columns.{isNegative, markOf, owes, tenthsFrom};
+ghost use Rattle.text.specs.code.Columns.{isNegative, markOf, owes, tenthsFrom};
 ghost use Rattle.text.specs.Text.{decimal, textOf};
 
-// Signed tenths: their difference, sign and size, and their text of twelve bytes. The places before the last three are
-// filled from the right: digits while there are any, then a minus if one is owed, then spaces.
+// The bytes of a text: a sign, nine digits, a point and a digit.
+pub const TEXT_WIDTH: usize = 12;
+
+// the last digit of the whole megabits, the point, the tenth
+const LAST_WHOLE: usize = TEXT_WIDTH - 3;
+
+const POINT: usize = TEXT_WIDTH - 2;
+
+const TENTH: usize = TEXT_WIDTH - 1;
 
 // What is left of a weight beside a demand.
 pub fn difference(weight: u32, demand: u32) -> i32
@@ -67,16 +76,16 @@ fn still_owes(w: u32, owed: bool) -> bool
     if w == 0 { false } else { owed }
 }
 
-fn tenths_from(m: u32, negative: bool) -> [u8; 12]
+fn tenths_from(m: u32, negative: bool) -> [u8; TEXT_WIDTH]
     ensures { λ r. ⌜ r ≡ tenthsFrom m negative ⌝ }
 {
-    let mut out = [32u8; 12];
-    out[9] = 48 + (m / 10 % 10) as u8;
-    out[10] = 46;
-    out[11] = 48 + (m % 10) as u8;
+    let mut out = [32u8; TEXT_WIDTH];
+    out[LAST_WHOLE] = 48 + (m / 10 % 10) as u8;
+    out[POINT] = 46;
+    out[TENTH] = 48 + (m % 10) as u8;
     let mut w = m / 100;
     let mut owed = negative;
-    let mut k: usize = 9;
+    let mut k: usize = LAST_WHOLE;
     while k > 0 {
         k -= 1;
         out[k] = mark_of(w, owed);
@@ -87,7 +96,7 @@ fn tenths_from(m: u32, negative: bool) -> [u8; 12]
 }
 
 // A number of tenths as text.
-pub fn tenths(z: i32) -> [u8; 12]
+pub fn tenths(z: i32) -> [u8; TEXT_WIDTH]
     ensures { λ r. ⌜ r ≡ textOf z ⌝ }
 {
     let m = magnitude(z);

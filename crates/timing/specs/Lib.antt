@@ -1,4 +1,4 @@
--- definitions
+-- definitions: what the function for timing gives
 pub mod Timing
--- laws for the proofs of the code
-pub mod Laws
+-- lemmas
+pub mod laws

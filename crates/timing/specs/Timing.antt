@@ -1,8 +1,8 @@
 -- What the function for timing gives.
 use Prim.Native.Nat.{ℕ, zero, suc}
 use mathlib.Core.List.{List}
-use Rattle.network.specs.Basics.{at}
-use Rattle.network.specs.Checks.{accepted}
+use Rattle.base.specs.Basics.{at}
+use Rattle.base.specs.Checks.{accepted}
 use Rattle.network.specs.declared.Network.{Network}
 use Rattle.network_file.specs.Reading.{readFile}
 use Rattle.network_file.specs.declared.Reading.{Reading}

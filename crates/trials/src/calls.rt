@@ -26,6 +26,9 @@ use network::MAX_LINKS;
 use plan::Changed;
 use plan::Plan;
 
+// Counts of links: 0 to the most.
+pub const COUNTS: usize = MAX_LINKS + 1;
+
 // Whether a change or an undo was refused with this number, no count, and the plan as before.
 fn refused_right(p: Plan, reply: Changed, number: u32) -> bool {
     if reply.number != number {
@@ -111,7 +114,7 @@ pub fn flow_right(
     length: usize,
 ) -> bool {
     let mut out = [7i32; MAX_LINKS];
-    let m = length % 257;
+    let m = length % COUNTS;
     let reply = plan::flow(p, s, t, &mut out[..m]);
     let number = flow_number(x, s, t, m);
     if number != reply {

@@ -1,4 +1,5 @@
-// What opening and writing do with files. These are written a second time here: n, m, then a, b, c for each link, each number in groups of seven bits, lowest first.
+// What opening and writing do with files. These are written a second time here: n, m, then a, b, c for each link, each
+// number in groups of seven bits, lowest first.
 use crate::same::same_but_stack;
 use network::MAX_LINKS;
 use network::Network;

@@ -1,4 +1,4 @@
-// Headrooms and their text (document 01, "Headroom"), written a second time.
+// Headrooms and their text (docs/SCOPE.md, 6), written a second time.
 use crate::lawful::backward;
 use crate::lawful::forward;
 use plan::HeadroomReply;

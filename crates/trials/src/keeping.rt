@@ -1,4 +1,5 @@
-// The keeping rule of document 01 ("The plan and its changes"), written down a second time: how many steps a change does not keep.
+// The keeping rule (docs/SCOPE.md, 5), written down a second time: how many steps a change
+// does not keep.
 use crate::sides::holds;
 use cut_tree::Steps;
 use network::MAX_LINKS;

@@ -1,4 +1,5 @@
-// Whether numbers on the links are a lawful flow of a given total (document 01, "Splits and flows"). Sums are unsigned, each way apart.
+// Whether numbers on the links are a lawful flow of a given total (docs/SCOPE.md, 3). Sums are unsigned,
+// each way apart.
 use network::MAX_LINKS;
 use network::MAX_NODES;
 use network::Network;

@@ -1,4 +1,5 @@
-// The history as a plain machine (document 01, "The plan and its changes"), kept beside the plan: it is fed the calls and never the plan.
+// The history as a plain machine (docs/SCOPE.md, 9), kept beside the plan: it is fed the calls
+// and never the plan.
 use crate::keeping::with_capacity;
 use network::MAX_CAPACITY;
 use network::MAX_LINKS;

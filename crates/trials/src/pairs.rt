@@ -6,7 +6,6 @@ use crate::sides::value_at;
 use cut_tree::PairAnswer;
 use cut_tree::Tree;
 use network::MAX_NODES;
-ghost use Prim.Native.Nat.{_≤_};
 
 fn wide(i: u8) -> usize {
     i as usize
@@ -24,8 +23,8 @@ fn way_up(parent: &[u8; MAX_NODES], i: usize) -> u64 {
     up
 }
 
-// Whether an edge on one of two sides, of the path or not, may have this weight if the lightest on the path is w: there is no lighter one,
-// and of equals none comes sooner from s.
+// Whether an edge on one of two sides, of the path or not, may have this weight if the lightest on the path is w: there
+// is no lighter one, and of equals none comes sooner from s.
 fn not_lighter(weight: u32, w: u32, on_path: bool, with_s: bool) -> bool {
     if !on_path {
         return true;
@@ -98,8 +97,9 @@ fn found_right(
     edges_right(tree, n, path, v, side, w)
 }
 
-// Whether an answer for (s, t) is right in this tree of n nodes: the lightest edge on the path, the first of equals met from s, and the side of
-// s once it is cut; and whether its weight is the smallest value of all sides that hold s and not t, which that side has.
+// Whether an answer for (s, t) is right in this tree of n nodes: the lightest edge on the path, the first of equals met
+// from s, and the side of s once it is cut; and whether its weight is the smallest value of all sides that hold s and
+// not t, which that side has.
 pub fn answer_right(
     answer: PairAnswer,
     tree: Tree,

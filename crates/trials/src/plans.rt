@@ -1,4 +1,5 @@
 // Histories of plans: random lists of calls on plans that are opened from random files.
+use crate::calls::COUNTS;
 use crate::calls::change_right;
 use crate::calls::flow_right;
 use crate::calls::headroom_call_right;
@@ -35,6 +36,7 @@ use crate::tally::count_network;
 use crate::tally::count_pair;
 use crate::tally::nothing;
 use network::MAX_CAPACITY;
+use network::MAX_LINKS;
 use network::Network;
 use network_file::MAX_FILE;
 use plan::MAX_DEMAND;
@@ -42,7 +44,8 @@ use plan::Plan;
 ghost use Prim.Native.Nat.{_≤_};
 ghost use Rattle.network.specs.Limits.{maxLinks};
 
-// How many lists of calls a plan gets, and of how many nodes and links the networks are: sometimes of so many that m has two bytes.
+// How many lists of calls a plan gets, and of how many nodes and links the networks are: sometimes of so many that m
+// has two bytes.
 const LISTS: usize = 4;
 
 const LAST_NODE: usize = 8;
@@ -78,7 +81,7 @@ fn counted(run: Run, number: u32, right: bool) -> Run {
 
 // a link: now and then the one behind the last
 fn some_link(v: usize, x: Machine) -> usize {
-    let m = x.network.links % 257;
+    let m = x.network.links % COUNTS;
     draw(v, m)
 }
 
@@ -154,7 +157,7 @@ fn try_question(run: Run, kind: usize, v: usize) -> Run {
         return counted(run, pair_number(x, s, t), pair_right(p, x, &values, s, t));
     }
     if kind == 1 {
-        let m = x.network.links % 256;
+        let m = x.network.links % MAX_LINKS;
         let length = m + draw(z, 1);
         return counted(
             run,

@@ -1,4 +1,5 @@
-// A trial of every side. It shares nothing with the code that it judges but the value of a cut, whose contract is its definition.
+// A trial of every side. It shares nothing with the code that it judges but the value of a cut, whose contract is its
+// definition.
 use network::Network;
 ghost use mathlib.Core.Bool.{true};
 ghost use mathlib.Core.Path.{_≡_};

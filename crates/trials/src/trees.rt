@@ -30,8 +30,8 @@ use network::Network;
 ghost use mathlib.Core.Bool.{true};
 ghost use mathlib.Core.Path.{_≡_};
 ghost use Rattle.network.specs.Network.{networkFits};
-ghost use Rattle.cut_tree.specs.QueryParts.{Climbs};
-ghost use Rattle.cut_tree.specs.RebuildParts.{Changes};
+ghost use Rattle.cut_tree.specs.code.QueryParts.{Climbs};
+ghost use Rattle.cut_tree.specs.code.RebuildParts.{Changes};
 
 // How often a network is changed, and of how many nodes and links the networks are.
 const CHANGES: usize = 5;

@@ -4,7 +4,7 @@ use mathlib.Core.Path.{_≡_}
 use native.Mathlib.Omega.{arith}
 use borrow.Author.Needs.{needs}
 use lib.Bits.{and-le-r}
-use Rattle.flow_hints.specs.HintsLaws.{Gathered, gathered-none, gathered-more, gathered-all}
+use Rattle.flow_hints.specs.laws.HintsLaws.{Gathered, gathered-none, gathered-more, gathered-all}
 use Rattle.flow_hints.proofs.leading_to.Statement.{statement}
 use Rattle.flow_hints.proofs.leading_to.Tie as tie
 

@@ -1,7 +1,7 @@
 -- `note_sent` notes a way back, and a full arc that no other stands behind: by the tests in the code's order.
 use borrow.Author.Needs.{needs}
 use borrow.Author.Tests.{eq-eqb, ne-eqb}
-use Rattle.flow_hints.specs.Hints.{sentNoted}
+use Rattle.flow_hints.specs.code.Hints.{sentNoted}
 use Rattle.flow_hints.proofs.note_sent.Statement.{statement}
 use Rattle.flow_hints.proofs.note_sent.Tie as tie
 

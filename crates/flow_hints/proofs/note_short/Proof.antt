@@ -1,7 +1,7 @@
 -- `note_short` removes a node from a ring where less was sent than wanted.
 use borrow.Author.Needs.{needs}
 use borrow.Author.Tests.{le-ltb, lt-ltb}
-use Rattle.flow_hints.specs.Hints.{shortNoted}
+use Rattle.flow_hints.specs.code.Hints.{shortNoted}
 use Rattle.flow_hints.proofs.note_short.Statement.{statement}
 use Rattle.flow_hints.proofs.note_short.Tie as tie
 

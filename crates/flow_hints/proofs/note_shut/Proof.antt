@@ -1,6 +1,6 @@
 -- `note_shut` removes a node from two sets of the hints.
 use borrow.Author.Needs.{needs}
-use Rattle.flow_hints.specs.Hints.{shutNoted}
+use Rattle.flow_hints.specs.code.Hints.{shutNoted}
 use Rattle.flow_hints.proofs.note_shut.Statement.{statement}
 use Rattle.flow_hints.proofs.note_shut.Tie as tie
 

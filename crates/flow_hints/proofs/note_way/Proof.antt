@@ -1,6 +1,6 @@
 -- `note_way` adds a node to two sets of the hints.
 use borrow.Author.Needs.{needs}
-use Rattle.flow_hints.specs.Hints.{wayNoted}
+use Rattle.flow_hints.specs.code.Hints.{wayNoted}
 use Rattle.flow_hints.proofs.note_way.Statement.{statement}
 use Rattle.flow_hints.proofs.note_way.Tie as tie
 

@@ -3,10 +3,10 @@ use Prim.Native.Nat.{_-_, _<_, _≤_}
 use mathlib.Core.Path.{_≡_, refl}
 use native.Mathlib.Numerals.{add-one}
 use native.Mathlib.Omega.{arith}
-use Rattle.network.specs.Basics.{at}
+use Rattle.base.specs.Basics.{at}
 use Rattle.network.specs.Limits.{maxNodes, maxLinks}
-use Rattle.network.specs.NetworkLaws.{link-places}
-use Rattle.flow_hints.specs.Hints.{hintsUpTo}
+use Rattle.network.specs.laws.NetworkLaws.{link-places}
+use Rattle.flow_hints.specs.code.Hints.{hintsUpTo}
 use Rattle.flow_hints.proofs.start_hints.Statement.{statement}
 use Rattle.flow_hints.proofs.start_hints.Tie as tie
 

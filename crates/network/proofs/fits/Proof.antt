@@ -4,7 +4,7 @@ use mathlib.Core.List.{List, _∷_}
 use borrow.Author.Needs.{needs}
 use borrow.Author.Tests.{le-leb, lt-leb}
 use lib.Dec.{leb}
-use Rattle.network.specs.BasicsLaws.{Settled, fail, pass, last, settled, answered-no, answered-yes}
+use Rattle.base.specs.laws.TestLaws.{Settled, fail, pass, last, settled, answered-no, answered-yes}
 use Rattle.network.specs.Limits.{maxNodes, maxLinks}
 use Rattle.network.specs.Network.{networkFits}
 use Rattle.network.proofs.fits.Statement.{statement}
@@ -12,8 +12,11 @@ use Rattle.network.proofs.fits.Tie as tie
 
 -- the counts stand
 counted : {xs : List Bool} {b : Bool} (c : tie.Else3) → Settled xs b
-    → Settled (leb 1 (c .before .before .before .args .t1 .nodes) ∷ leb (c .before .before .before .args .t1 .nodes) maxNodes ∷ leb (c .before .before .before .args .t1 .links) maxLinks ∷ xs) b
-counted c s = pass (le-leb _ _ (c .before .before .if1 .left)) (pass (le-leb _ _ (c .before .if2 .left)) (pass (le-leb _ _ (c .if3 .left)) s))
+    → Settled
+    (leb 1 (c .before .before .before .args .t1 .nodes) ∷ leb (c .before .before .before .args .t1 .nodes) maxNodes
+    ∷ leb (c .before .before .before .args .t1 .links) maxLinks ∷ xs) b
+counted c s =
+    pass (le-leb _ _ (c .before .before .if1 .left)) (pass (le-leb _ _ (c .before .if2 .left)) (pass (le-leb _ _ (c .if3 .left)) s))
 
 returns : tie.Need-returns
 unfolding networkFits
@@ -25,7 +28,9 @@ returns-2 c = settled (pass (le-leb _ _ (c .before .if1 .left)) (fail (lt-leb _ 
 
 returns-3 : tie.Need-returns-3
 unfolding networkFits
-returns-3 c = settled (pass (le-leb _ _ (c .before .before .if1 .left)) (pass (le-leb _ _ (c .before .if2 .left)) (fail (lt-leb _ _ (c .if3 .taken)))))
+returns-3 c =
+    settled (pass (le-leb _ _ (c .before .before .if1 .left))
+    (pass (le-leb _ _ (c .before .if2 .left)) (fail (lt-leb _ _ (c .if3 .taken)))))
 
 links-fit-requires : tie.Need-links-fit-requires
 links-fit-requires c κs = search needs
@@ -41,7 +46,9 @@ returns-5 : tie.Need-returns-5
 unfolding networkFits
 returns-5 c =
     let l = c .before .before .before .before .before in
-    settled (counted (l .before .before) (pass (answered-yes (l .before .links-fit .ensures) (l .if4 .left)) (fail (answered-no (c .before .blank-from-u8 .ensures) (c .if5 .taken)))))
+    settled (counted (l .before .before)
+    (pass (answered-yes (l .before .links-fit .ensures) (l .if4 .left))
+    (fail (answered-no (c .before .blank-from-u8 .ensures) (c .if5 .taken)))))
 
 blank-from-u8-requires-2 : tie.Need-blank-from-u8-requires-2
 blank-from-u8-requires-2 c κs = search needs
@@ -52,7 +59,8 @@ returns-6 c =
     let a = c .before .before .before .before .before in
     let l = a .before .before .before .before .before in
     settled (counted (l .before .before) (pass (answered-yes (l .before .links-fit .ensures) (l .if4 .left))
-    (pass (answered-yes (a .before .blank-from-u8 .ensures) (a .if5 .left)) (fail (answered-no (c .before .blank-from-u82 .ensures) (c .if6 .taken))))))
+    (pass (answered-yes (a .before .blank-from-u8 .ensures) (a .if5 .left))
+    (fail (answered-no (c .before .blank-from-u82 .ensures) (c .if6 .taken))))))
 
 blank-from-u32-requires : tie.Need-blank-from-u32-requires
 blank-from-u32-requires c κs = search needs
@@ -64,7 +72,8 @@ returns-7 c =
     let a = b .before .before .before .before .before in
     let l = a .before .before .before .before .before in
     settled (counted (l .before .before) (pass (answered-yes (l .before .links-fit .ensures) (l .if4 .left))
-    (pass (answered-yes (a .before .blank-from-u8 .ensures) (a .if5 .left)) (pass (answered-yes (b .before .blank-from-u82 .ensures) (b .if6 .left)) (last (c .blank-from-u32 .ensures))))))
+    (pass (answered-yes (a .before .blank-from-u8 .ensures) (a .if5 .left))
+    (pass (answered-yes (b .before .blank-from-u82 .ensures) (b .if6 .left)) (last (c .blank-from-u32 .ensures))))))
 
 pub fits-spec : {M : Type 1} → statement M
 fits-spec =

@@ -4,8 +4,8 @@ use mathlib.Core.Bool.{true}
 use Prim.Native.Nat.{ℕ, _≤_, _-_}
 use native.Mathlib.Omega.{arith}
 use borrow.Author.Needs.{needs}
-use Rattle.network.specs.Basics.{all}
-use Rattle.network.specs.BasicsLaws.{all-none, all-more, all-fails, answered-no, answered-yes}
+use Rattle.base.specs.Basics.{all}
+use Rattle.base.specs.laws.TestLaws.{all-none, all-more, all-fails, answered-no, answered-yes}
 use Rattle.network.specs.Network.{linkFits}
 use Rattle.network.proofs.links_fit.Statement.{statement}
 use Rattle.network.proofs.links_fit.Tie as tie

@@ -1,7 +1,8 @@
+-- `node_set::all_below` meets its contract.
 use native.Mathlib.Omega.{arith}
 use lib.Pow.{pow-pos}
 use Rattle.node_set.specs.Set.{allBelow}
-use Rattle.node_set.specs.BitLaws.{one-shifted}
+use Rattle.node_set.specs.laws.BitLaws.{one-shifted}
 use borrow.Author.Needs.{needs}
 use Rattle.node_set.proofs.all_below.Statement.{statement}
 use Rattle.node_set.proofs.all_below.Tie as tie

@@ -1,3 +1,4 @@
+-- `node_set::complement` meets its contract.
 use Rattle.node_set.specs.Set.{allBelow, complementIn}
 use borrow.Author.Needs.{needs}
 use Rattle.node_set.proofs.complement.Statement.{statement}

@@ -1,5 +1,6 @@
+-- `node_set::contains` meets its contract.
 use mathlib.Core.Path.{sym}
-use Rattle.min_cut.specs.WordLaws.{holds-shift}
+use Rattle.base.specs.laws.WordLaws.{holds-shift}
 use borrow.Author.Needs.{needs}
 use Rattle.node_set.proofs.contains.Statement.{statement}
 use Rattle.node_set.proofs.contains.Tie as tie

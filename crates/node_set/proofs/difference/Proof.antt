@@ -1,3 +1,4 @@
+-- `node_set::difference` meets its contract.
 use mathlib.Core.Path.{refl}
 use Rattle.node_set.specs.Set.{difference}
 use Rattle.node_set.proofs.difference.Statement.{statement}

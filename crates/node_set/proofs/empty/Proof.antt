@@ -1,3 +1,4 @@
+-- `node_set::empty` meets its contract.
 use mathlib.Core.Path.{refl}
 use Rattle.node_set.specs.Set.{empty}
 use Rattle.node_set.proofs.empty.Statement.{statement}

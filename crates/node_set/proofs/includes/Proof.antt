@@ -1,3 +1,4 @@
+-- `node_set::includes` meets its contract.
 use mathlib.Core.Path.{refl}
 use Rattle.node_set.specs.Set.{included}
 use Rattle.node_set.proofs.includes.Statement.{statement}

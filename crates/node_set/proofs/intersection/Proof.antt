@@ -1,3 +1,4 @@
+-- `node_set::intersection` meets its contract.
 use mathlib.Core.Path.{refl}
 use Rattle.node_set.specs.Set.{intersection}
 use Rattle.node_set.proofs.intersection.Statement.{statement}

@@ -1,10 +1,11 @@
+-- `node_set::lowest` meets its contract.
 use Prim.Native.Nat.{ℕ, _≤_}
 use native.Mathlib.Omega.{arith}
 use lib.Count.{trailing-le}
 use mir.Syntax.{w64}
 use mir.Val.{Fits}
 use Rattle.node_set.specs.Set.{width}
-use Rattle.node_set.specs.SizeLaws.{lowest-is}
+use Rattle.node_set.specs.laws.SizeLaws.{lowest-is}
 use Rattle.node_set.proofs.lowest.Statement.{statement}
 use Rattle.node_set.proofs.lowest.Tie as tie
 

@@ -1,5 +1,6 @@
+-- `node_set::remove` meets its contract.
 use Rattle.node_set.specs.Set.{removed}
-use Rattle.node_set.specs.BitLaws.{one-shifted}
+use Rattle.node_set.specs.laws.BitLaws.{one-shifted}
 use borrow.Author.Needs.{needs}
 use Rattle.node_set.proofs.remove.Statement.{statement}
 use Rattle.node_set.proofs.remove.Tie as tie

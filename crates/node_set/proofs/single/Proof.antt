@@ -1,5 +1,6 @@
+-- `node_set::single` meets its contract.
 use Rattle.node_set.specs.Set.{single}
-use Rattle.node_set.specs.BitLaws.{one-shifted}
+use Rattle.node_set.specs.laws.BitLaws.{one-shifted}
 use borrow.Author.Needs.{needs}
 use Rattle.node_set.proofs.single.Statement.{statement}
 use Rattle.node_set.proofs.single.Tie as tie

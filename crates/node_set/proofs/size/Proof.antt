@@ -1,4 +1,5 @@
-use Rattle.node_set.specs.SizeLaws.{counted}
+-- `node_set::size` meets its contract.
+use Rattle.node_set.specs.laws.SizeLaws.{counted}
 use Rattle.node_set.proofs.size.Statement.{statement}
 use Rattle.node_set.proofs.size.Tie as tie
 

@@ -1,3 +1,4 @@
+-- `node_set::union` meets its contract.
 use mathlib.Core.Path.{refl}
 use Rattle.node_set.specs.Set.{union}
 use Rattle.node_set.proofs.union.Statement.{statement}

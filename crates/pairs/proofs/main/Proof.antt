@@ -4,13 +4,15 @@ use native.Mathlib.Omega.{arith}
 use lib.ListN.{replicate, length-replicate}
 use borrow.Author.Needs.{needs}
 use Rattle.io.specs.Counts.{Counts}
-use Rattle.listing.specs.ListedLaws.{listed-counts}
+use Rattle.listing.specs.Listing.{maxListing}
+use Rattle.listing.specs.laws.ListedLaws.{listed-counts}
 use Rattle.pairs.proofs.main.Statement.{statement}
 use Rattle.pairs.proofs.main.Tie as tie
 
 counts : (c : tie.After-listing) → Counts (c .listing .result) (c .listing .last .1 .0)
 counts c =
-    listed-counts _ (replicate 183040 0) (omega (arith, length-replicate {A = ℕ} 183040 0)) (c .listing .ensures .0) (c .listing .ensures .1)
+    let long = length-replicate {A = ℕ} maxListing 0 in
+    listed-counts _ (replicate maxListing 0) (omega arith) (c .listing .ensures .0) (c .listing .ensures .1)
 
 slice-aggregate-read-full : tie.Need-slice-aggregate-read-full
 slice-aggregate-read-full c = search needs

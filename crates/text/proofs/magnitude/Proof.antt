@@ -8,8 +8,8 @@ use lib.Signed.{mag}
 use mir.Syntax.{w32}
 use mir.Val.{toZ, ofZ}
 use mir.Facts.{toZ-ofZ}
-use Rattle.text.specs.Columns.{isNegative}
-use Rattle.text.specs.ColumnsLaws.{up-fits, up-small, up-negated, mag-abs}
+use Rattle.text.specs.code.Columns.{isNegative}
+use Rattle.text.specs.laws.ColumnsLaws.{up-fits, up-small, up-negated, mag-abs}
 use Rattle.text.proofs.magnitude.Statement.{statement}
 use Rattle.text.proofs.magnitude.Tie as tie
 

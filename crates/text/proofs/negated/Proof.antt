@@ -1,5 +1,5 @@
 -- `text::negated` meets its contract: the negation of a number that is not the least one fits.
-use Rattle.text.specs.ColumnsLaws.{neg-fits, neg-is}
+use Rattle.text.specs.laws.ColumnsLaws.{neg-fits, neg-is}
 use Rattle.text.proofs.negated.Statement.{statement}
 use Rattle.text.proofs.negated.Tie as tie
 

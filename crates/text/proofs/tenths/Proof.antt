@@ -4,8 +4,8 @@ use borrow.Author.Needs.{needs}
 use lib.IntN.{natAbs}
 use lib.Signed.{natAbs-le}
 use mir.Facts.{toZ-ofZ}
-use Rattle.text.specs.Columns.{isNegative, tenthsFrom}
-use Rattle.text.specs.TextLaws.{tenths-text}
+use Rattle.text.specs.code.Columns.{isNegative, tenthsFrom}
+use Rattle.text.specs.laws.TextLaws.{tenths-text}
 use Rattle.text.proofs.tenths.Statement.{statement}
 use Rattle.text.proofs.tenths.Tie as tie
 

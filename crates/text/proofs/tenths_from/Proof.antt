@@ -1,88 +1,72 @@
+-- `text::tenths_from` meets its contract.
 use borrow.Author.Needs.{needs}
 use Prim.Native.Nat.{ℕ, _≤_, _-_, _/_}
 use mathlib.Core.Path.{_≡_, refl, ap, ap₂, sym, _∙_}
 use mathlib.Core.Bool.{Bool}
-use mathlib.Core.List.{List, _++_}
+use mathlib.Core.List.{_++_}
 use lib.ListN.{length, drop, set, length-set}
 use native.Mathlib.Omega.{arith}
-use Rattle.text.specs.Columns.{leading, markOf, owes, tenthsFrom}
-use Rattle.text.specs.ColumnsLaws.{turn, lead-none}
+use Rattle.text.specs.code.Columns.{leading, tenthsFrom}
+use Rattle.text.specs.laws.ColumnsLaws.{turn, lead-none}
 use Rattle.text.proofs.tenths_from.Statement.{statement}
 use Rattle.text.proofs.tenths_from.Tie as tie
-use Rattle.text.proofs.tenths_from.Reads as reads
-use Rattle.text.proofs.tenths_from.Lts as lts
-use Rattle.text.proofs.mark_of.Reads as mark-of-reads
-use Rattle.text.proofs.still_owes.Reads as still-owes-reads
 
 abbrev Inv-loop : tie.InvT-loop
-Inv-loop m neg out₀ w₀ owed₀ k₀ out w owed k = (k ≤ 9) × (length out ≡ 12) × (leading k w owed ++ drop k out ≡ leading 9 w₀ owed₀ ++ drop 9 out₀)
+Inv-loop m neg out₀ w₀ owed₀ k₀ out w owed k =
+    (k ≤ 9) × (length out ≡ 12) × (leading k w owed ++ drop k out ≡ leading 9 w₀ owed₀ ++ drop 9 out₀)
 
 abbrev μ-loop : tie.MeasureT-loop
 μ-loop m neg out₀ w₀ owed₀ k₀ out w owed k = k
 
--- src/lib.rt:68:19
 cast-out : tie.Need-cast-out Inv-loop μ-loop
 cast-out c = search needs
 
--- src/lib.rt:68:14
 add-out : tie.Need-add-out Inv-loop μ-loop
 add-out c = search needs
 
--- src/lib.rt:68:5
 array-write-out : tie.Need-array-write-out Inv-loop μ-loop
 array-write-out c = search needs
 
--- src/lib.rt:69:5
 array-write-out-2 : tie.Need-array-write-out-2 Inv-loop μ-loop
 array-write-out-2 c = search needs
 
--- src/lib.rt:70:20
 cast-out-2 : tie.Need-cast-out-2 Inv-loop μ-loop
 cast-out-2 c = search needs
 
--- src/lib.rt:70:15
 add-out-2 : tie.Need-add-out-2 Inv-loop μ-loop
 add-out-2 c = search needs
 
--- src/lib.rt:70:5
 array-write-out-3 : tie.Need-array-write-out-3 Inv-loop μ-loop
 array-write-out-3 c = search needs
 
--- src/lib.rt:74:5
 loop-holds : tie.Need-loop-holds Inv-loop μ-loop
 loop-holds c = (search needs, refl, refl)
 
--- src/lib.rt:75:9
 sub-k : tie.Need-sub-k Inv-loop μ-loop
 sub-k c = search needs
 
--- src/lib.rt:76:18
 mark-of-requires : tie.Need-mark-of-requires Inv-loop μ-loop
 mark-of-requires c κs = search needs
 
--- src/lib.rt:76:9
 array-write-out-4 : tie.Need-array-write-out-4 Inv-loop μ-loop
 array-write-out-4 c = search needs
 
--- src/lib.rt:77:9
 still-owes-requires : tie.Need-still-owes-requires Inv-loop μ-loop
 still-owes-requires c κs = search needs
 
--- src/lib.rt:74:5
 loop-less : tie.Need-loop-less Inv-loop μ-loop
 loop-less c = search needs
 
--- src/lib.rt:74:5
 loop-again : tie.Need-loop-again Inv-loop μ-loop
 loop-again c =
     let l = c .before .before .before .loop in (
       search needs,
       simp length-set (l .inv .1),
-      ap₂ (λ (o : Bool) (v : ℕ). leading (l .k - 1) (l .w / 10) o ++ drop (l .k - 1) (set (l .out) (l .k - 1) v)) (c .still-owes .ensures) (c .before .mark-of .ensures)
+      ap₂ (λ (o : Bool) (v : ℕ). leading (l .k - 1) (l .w / 10) o ++ drop (l .k - 1) (set (l .out) (l .k - 1) v)) (c .still-owes .ensures)
+          (c .before .mark-of .ensures)
           ∙ turn (l .out) (l .k) (l .w) (l .owed) (omega arith) (omega arith) ∙ l .inv .2,
     )
 
--- src/lib.rt:64:1
 returns : tie.Need-returns Inv-loop μ-loop
 unfolding tenthsFrom
 returns c =

@@ -1,6 +1,6 @@
 -- `timing::pamzolit_timing` meets its contract, for a refused file and for an accepted one.
 use borrow.Author.Needs.{needs}
-use Rattle.timing.specs.Laws.{timed-refused, timed-accepted, timed-within}
+use Rattle.timing.specs.laws.TimingLaws.{timed-refused, timed-accepted, timed-within}
 use Rattle.timing.proofs.pamzolit_timing.Statement.{statement}
 use Rattle.timing.proofs.pamzolit_timing.Tie as tie
 

@@ -4,7 +4,7 @@ use Prim.Native.Nat.{_≤_, _-_}
 use native.Mathlib.Omega.{arith}
 use borrow.Author.Needs.{needs}
 use Rattle.timing.specs.Timing.{weightAfter}
-use Rattle.timing.specs.Laws.{weight-none, weight-more}
+use Rattle.timing.specs.laws.TimingLaws.{weight-none, weight-more}
 use Rattle.timing.proofs.weight_after.Statement.{statement}
 use Rattle.timing.proofs.weight_after.Tie as tie
 

@@ -1,5 +1,5 @@
 -- The side crosses the link where it holds exactly one of its ends.
-use Rattle.cut_tree.specs.TakingLaws.{crossed-by}
+use Rattle.cut_tree.specs.laws.TakingLaws.{crossed-by}
 use borrow.Author.Needs.{needs}
 use Rattle.cut_tree.proofs.keep.crosses.Statement.{statement}
 use Rattle.cut_tree.proofs.keep.crosses.Tie as tie

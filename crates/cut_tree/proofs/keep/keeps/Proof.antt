@@ -1,5 +1,5 @@
 -- A step is kept where its pivot stays and its cut survives.
-use Rattle.cut_tree.specs.TakingLaws.{kept-moved, kept-stays}
+use Rattle.cut_tree.specs.laws.TakingLaws.{kept-moved, kept-stays}
 use borrow.Author.Needs.{needs}
 use Rattle.cut_tree.proofs.keep.keeps.Statement.{statement}
 use Rattle.cut_tree.proofs.keep.keeps.Tie as tie

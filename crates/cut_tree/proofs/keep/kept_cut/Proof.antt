@@ -1,5 +1,5 @@
 -- The value is less by the fall, if it falls.
-use Rattle.cut_tree.specs.TakingLaws.{kept-whole, kept-less}
+use Rattle.cut_tree.specs.laws.TakingLaws.{kept-whole, kept-less}
 use borrow.Author.Needs.{needs}
 use Rattle.cut_tree.proofs.keep.kept_cut.Statement.{statement}
 use Rattle.cut_tree.proofs.keep.kept_cut.Tie as tie

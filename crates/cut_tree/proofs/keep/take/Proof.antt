@@ -1,6 +1,6 @@
 -- A kept step has room for the fall; any other cut is worked out.
 use mathlib.Core.Path.{sym, _∙_}
-use Rattle.cut_tree.specs.TakingLaws.{kept-room, took-kept, took-anew}
+use Rattle.cut_tree.specs.laws.TakingLaws.{kept-fits, took-kept, took-anew}
 use borrow.Author.Needs.{needs}
 use Rattle.cut_tree.proofs.keep.take.Statement.{statement}
 use Rattle.cut_tree.proofs.keep.take.Tie as tie
@@ -9,7 +9,7 @@ keeps-requires : tie.Need-keeps-requires
 keeps-requires c κs = search needs
 
 kept-cut-requires : tie.Need-kept-cut-requires
-kept-cut-requires c κs = let k = c .before in kept-room _ _ _ (sym (k .keeps .ensures) ∙ c .if1 .taken)
+kept-cut-requires c κs = let k = c .before in kept-fits _ _ _ (sym (k .keeps .ensures) ∙ c .if1 .taken)
 
 returns : tie.Need-returns
 returns c = λ net a q. took-kept _ _ _ _ _ _ (c .before .before .keeps .ensures) (c .before .if1 .taken) _ (c .kept-cut .ensures)

@@ -1,7 +1,7 @@
 -- Each return is a way through `climb`; the count that is left falls.
 use native.Mathlib.Omega.{arith}
-use Rattle.cut_tree.specs.ClimbLaws.{inside-lt, inside-next, climb-end, climb-none, climb-on}
-use Rattle.cut_tree.specs.QueryLaws.{added-none, added-on}
+use Rattle.cut_tree.specs.laws.ClimbLaws.{inside-lt, inside-next, climb-end, climb-none, climb-on}
+use Rattle.cut_tree.specs.laws.QueryLaws.{added-none, added-on}
 use Prim.Native.Nat.{ℕ, _<_}
 use borrow.Fn.Kinds.{In}
 use borrow.Fn.PlainCycle.{Measures, is, falls, and}

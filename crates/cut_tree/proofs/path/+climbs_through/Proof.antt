@@ -1,8 +1,8 @@
 -- Each return is a way through the climb from j; the count that is left falls.
 use mathlib.Core.Path.{sym, _∙_}
 use native.Mathlib.Omega.{arith}
-use Rattle.cut_tree.specs.ClimbLaws.{inside-lt, inside-next}
-use Rattle.cut_tree.specs.SideLaws.{through-end, through-here, through-known, through-none, through-on, known-next}
+use Rattle.cut_tree.specs.laws.ClimbLaws.{inside-lt, inside-next}
+use Rattle.cut_tree.specs.laws.SideLaws.{through-end, through-here, through-known, through-none, through-on, known-next}
 use Prim.Native.Nat.{ℕ, _<_}
 use borrow.Fn.Kinds.{In}
 use borrow.Fn.PlainCycle.{Measures, is, falls, and}

@@ -2,8 +2,8 @@
 use mathlib.Core.Path.{sym, _∙_}
 use native.Mathlib.Omega.{arith}
 use lib.ListN.{getD}
-use Rattle.cut_tree.specs.ClimbLaws.{inside-lt, inside-next, climbTo-end, climbTo-none, climbTo-stop, climbTo-on}
-use Rattle.cut_tree.specs.QueryLaws.{down-none, down-on, down-below}
+use Rattle.cut_tree.specs.laws.ClimbLaws.{inside-lt, inside-next, climbTo-end, climbTo-none, climbTo-stop, climbTo-on}
+use Rattle.cut_tree.specs.laws.QueryLaws.{down-none, down-on, down-below}
 use Prim.Native.Nat.{ℕ, _-_, _<_}
 use borrow.Fn.Kinds.{In}
 use borrow.Fn.PlainCycle.{Measures, is, falls, and}
@@ -60,7 +60,8 @@ lighter-requires t c κs =
     let st = c .before .before .before .before .before .before in
     let a = st .args in
     let up = getD (a .parent .now) (a .i) 0 in
-    let below = down-below (a .parent .now) (a .stop) (a .weight .now) (a .left - 1) up (a .best) (inside-next (st .pre .1 .0)) (st .pre .1 .1) in
+    let below =
+    down-below (a .parent .now) (a .stop) (a .weight .now) (a .left - 1) up (a .best) (inside-next (st .pre .1 .0)) (st .pre .1 .1) in
     (omega (arith, c .lightest-down .ensures, below), inside-lt (st .pre .1 .0))
 
 returns-4 : (t : ℕ) → lts.Need-returns-4 (claims t) (start t) this.Post

@@ -2,8 +2,8 @@
 use mathlib.Core.Path.{sym, _∙_}
 use native.Mathlib.Omega.{arith}
 use Rattle.network.specs.Limits.{maxNodes}
-use Rattle.cut_tree.specs.ClimbLaws.{inside-lt, inside-next, climbTo-end, climbTo-none, climbTo-stop, climbTo-on}
-use Rattle.cut_tree.specs.QueryLaws.{up-none, up-on, lighter-below}
+use Rattle.cut_tree.specs.laws.ClimbLaws.{inside-lt, inside-next, climbTo-end, climbTo-none, climbTo-stop, climbTo-on}
+use Rattle.cut_tree.specs.laws.QueryLaws.{up-none, up-on, lighter-below}
 use Prim.Native.Nat.{ℕ, _<_}
 use borrow.Fn.Kinds.{In}
 use borrow.Fn.PlainCycle.{Measures, is, falls, and}

@@ -1,7 +1,7 @@
 -- Each return is a way through `reaches`; the count that is left falls.
 use mathlib.Core.Path.{sym, _∙_}
 use native.Mathlib.Omega.{arith}
-use Rattle.cut_tree.specs.ClimbLaws.{inside-lt, inside-next, reaches-end, reaches-none, reaches-on}
+use Rattle.cut_tree.specs.laws.ClimbLaws.{inside-lt, inside-next, reaches-end, reaches-none, reaches-on}
 use Prim.Native.Nat.{ℕ, _<_}
 use borrow.Fn.Kinds.{In}
 use borrow.Fn.PlainCycle.{Measures, is, falls, and}

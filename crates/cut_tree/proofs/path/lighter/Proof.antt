@@ -1,5 +1,5 @@
 -- Each return is a way through `lighter`.
-use Rattle.cut_tree.specs.QueryLaws.{lighter-none, lighter-less, lighter-more}
+use Rattle.cut_tree.specs.laws.QueryLaws.{lighter-none, lighter-less, lighter-more}
 use borrow.Author.Needs.{needs}
 use Rattle.cut_tree.proofs.path.lighter.Statement.{statement}
 use Rattle.cut_tree.proofs.path.lighter.Tie as tie

@@ -1,7 +1,7 @@
 -- The climb from s, then the climb from t: the path in the order in which it is met from s.
 use native.Mathlib.Omega.{arith}
 use Rattle.cut_tree.specs.Path.{maxClimb}
-use Rattle.cut_tree.specs.QueryLaws.{lightest-on, up-below}
+use Rattle.cut_tree.specs.laws.QueryLaws.{lightest-on, up-below}
 use borrow.Author.Needs.{needs}
 use Rattle.cut_tree.proofs.path.lightest_on.Statement.{statement}
 use Rattle.cut_tree.proofs.path.lightest_on.Tie as tie
@@ -25,7 +25,8 @@ lightest-down-requires : tie.Need-lightest-down-requires
 lightest-down-requires c κs =
     let st = c .before .before .before .before .before in
     let a = st .args in
-    let below = up-below (a .parent .now) (c .before .ancestors2 .result) (a .weight .now) maxClimb (a .s) 0 (st .pre .from) (omega arith) in
+    let below =
+    up-below (a .parent .now) (c .before .ancestors2 .result) (a .weight .now) maxClimb (a .s) 0 (st .pre .from) (omega arith) in
     (st .pre .to, omega (arith, c .lightest-up .ensures, below))
 
 returns : tie.Need-returns

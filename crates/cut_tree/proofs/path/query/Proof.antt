@@ -2,7 +2,7 @@
 use Prim.Native.Nat.{_<_}
 use native.Mathlib.Omega.{arith}
 use Rattle.network.specs.Limits.{maxNodes}
-use Rattle.cut_tree.specs.QueryLaws.{refused-s, refused-t, refused-same, answered, pair-climbs, lightestOn-below}
+use Rattle.cut_tree.specs.laws.QueryLaws.{refused-s, refused-t, refused-same, answered, pair-climbs, lightestOn-below}
 use borrow.Author.Needs.{needs}
 use Rattle.cut_tree.proofs.path.query.Statement.{statement}
 use Rattle.cut_tree.proofs.path.query.Tie as tie

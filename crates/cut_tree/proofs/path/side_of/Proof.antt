@@ -1,9 +1,9 @@
 -- The subtree of v where s is in it, else its complement.
 use mathlib.Core.Path.{sym, _∙_}
 use native.Mathlib.Omega.{arith}
-use Rattle.min_cut.specs.WordLaws.{word-lt}
+use Rattle.base.specs.laws.WordLaws.{word-lt}
 use Rattle.cut_tree.specs.Path.{under}
-use Rattle.cut_tree.specs.SideLaws.{side-with, side-without}
+use Rattle.cut_tree.specs.laws.SideLaws.{side-with, side-without}
 use borrow.Author.Needs.{needs}
 use Rattle.cut_tree.proofs.path.side_of.Statement.{statement}
 use Rattle.cut_tree.proofs.path.side_of.Tie as tie
@@ -28,7 +28,9 @@ complement-requires c κs =
 returns-2 : tie.Need-returns-2
 returns-2 c =
     let x = c .before .before .before in
-    c .complement .ensures ∙ side-without _ _ _ _ _ (x .before .pre .1) (x .subtree .ensures) (sym (c .before .before .contains .ensures) ∙ c .before .if1 .left)
+    c .complement .ensures
+    ∙ side-without _ _ _ _ _ (x .before .pre .1) (x .subtree .ensures)
+    (sym (c .before .before .contains .ensures) ∙ c .before .if1 .left)
 
 pub side-of-spec : {M : Type 1} → statement M
 side-of-spec =

@@ -2,9 +2,9 @@
 use mathlib.Core.Path.{_≡_, _∙_}
 use Prim.Native.Nat.{_≤_, _-_}
 use native.Mathlib.Omega.{arith}
-use Rattle.min_cut.specs.Word.{word}
+use Rattle.base.specs.Word.{word}
 use Rattle.cut_tree.specs.Path.{under}
-use Rattle.cut_tree.specs.SideLaws.{pass-start, pass-known, pass-next, pass-end}
+use Rattle.cut_tree.specs.laws.SideLaws.{pass-start, pass-known, pass-next, pass-end}
 use Rattle.cut_tree.proofs.path.subtree.Statement.{statement}
 use Rattle.cut_tree.proofs.path.subtree.Tie as tie
 

@@ -1,5 +1,5 @@
 -- A node is added where its climb goes through v.
-use Rattle.cut_tree.specs.SideLaws.{added-so, added-not}
+use Rattle.cut_tree.specs.laws.SideLaws.{added-so, added-not}
 use borrow.Author.Needs.{needs}
 use Rattle.cut_tree.proofs.path.with_node.Statement.{statement}
 use Rattle.cut_tree.proofs.path.with_node.Tie as tie

@@ -2,9 +2,9 @@
 use mathlib.Core.Path.{_≡_, refl}
 use borrow.Author.Needs.{needs}
 use native.Mathlib.Omega.{arith}
-use Rattle.node_set.specs.SetLaws.{removed-less}
+use Rattle.node_set.specs.Members.{removed-less}
 use Rattle.cut_tree.specs.Rule.{moved}
-use Rattle.cut_tree.specs.StepLaws.{moving-next, moving-end}
+use Rattle.cut_tree.specs.laws.StepLaws.{moving-next, moving-end}
 use Rattle.cut_tree.proofs.rule.move_nodes.Statement.{statement}
 use Rattle.cut_tree.proofs.rule.move_nodes.Tie as tie
 

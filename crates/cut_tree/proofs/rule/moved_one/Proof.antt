@@ -1,5 +1,5 @@
 -- Each return is one of the two cases.
-use Rattle.cut_tree.specs.StepLaws.{moved-t, moved-not}
+use Rattle.cut_tree.specs.laws.StepLaws.{moved-t, moved-not}
 use Rattle.cut_tree.proofs.rule.moved_one.Statement.{statement}
 use Rattle.cut_tree.proofs.rule.moved_one.Tie as tie
 

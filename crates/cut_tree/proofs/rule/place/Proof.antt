@@ -1,5 +1,5 @@
 -- Each return is one of the two ways to place s.
-use Rattle.cut_tree.specs.StepLaws.{parents-between, parents-beside, weights-between, weights-beside}
+use Rattle.cut_tree.specs.laws.StepLaws.{parents-between, parents-beside, weights-between, weights-beside}
 use borrow.Author.Needs.{needs}
 use Rattle.cut_tree.proofs.rule.place.Statement.{statement}
 use Rattle.cut_tree.proofs.rule.place.Tie as tie

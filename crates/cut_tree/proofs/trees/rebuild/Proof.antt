@@ -4,8 +4,8 @@ use Prim.Native.Nat.{_<_}
 use native.Mathlib.Omega.{arith}
 use Rattle.network.specs.Limits.{maxLinks}
 use Rattle.network.specs.Network.{Sized}
-use Rattle.network.specs.NetworkLaws.{nodes-le, links-le, ends-within, change-fits}
-use Rattle.cut_tree.specs.LoopLaws.{rebuilt-is}
+use Rattle.network.specs.laws.NetworkLaws.{nodes-le, links-le, ends-within, change-fits}
+use Rattle.cut_tree.specs.laws.LoopLaws.{rebuilt-is}
 use borrow.Author.Needs.{needs}
 use Rattle.cut_tree.proofs.trees.rebuild.Statement.{statement}
 use Rattle.cut_tree.proofs.trees.rebuild.Tie as tie

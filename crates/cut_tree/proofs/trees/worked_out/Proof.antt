@@ -7,18 +7,19 @@ use lib.ListN.{getD}
 use mir.Syntax.{w64}
 use mir.Val.{Fits}
 use Rattle.network.specs.Limits.{maxNodes}
-use Rattle.network.specs.NetworkLaws.{nodes-le}
+use Rattle.network.specs.laws.NetworkLaws.{nodes-le}
 use Rattle.network.specs.declared.incidence.Incidence.{Incidence}
-use Rattle.max_flow.specs.Search.{Ready}
-use Rattle.cut_tree.specs.RebuildParts.{builtOf, stepOf, taken}
-use Rattle.cut_tree.specs.StepLaws.{stepped-by}
-use Rattle.cut_tree.specs.LoopLaws.{Going, going-start, going-parent, going-count, going-next, going-end}
+use Rattle.max_flow.specs.code.Search.{Ready}
+use Rattle.cut_tree.specs.Rebuild.{keptOrLeastBy}
+use Rattle.cut_tree.specs.code.RebuildParts.{builtOf, survived}
+use Rattle.cut_tree.specs.laws.StepLaws.{stepped-by}
+use Rattle.cut_tree.specs.laws.LoopLaws.{Going, going-start, going-parent, going-count, going-next, going-end, taken-is}
 use Rattle.cut_tree.proofs.trees.worked_out.Statement.{statement}
 use Rattle.cut_tree.proofs.trees.worked_out.Tie as tie
 
 abbrev Inv-loop : tie.InvT-loop
 Inv-loop net h steps first next to start table full parent₀ weight₀ pivot₀ side₀ value₀ count₀ s₀ parent weight pivot side value count s =
-    Going net steps h (builtOf parent weight pivot side value count) s
+    Going net (survived h) (h .old - h .new) steps (builtOf parent weight pivot side value count) s
 
 abbrev μ-loop : tie.MeasureT-loop
 μ-loop net h steps first next to start table full parent₀ weight₀ pivot₀ side₀ value₀ count₀ s₀ parent weight pivot side value count s =
@@ -39,7 +40,7 @@ node : (c : tie.Then1 Inv-loop μ-loop) → turn c .loop .s < maxNodes
 node c = let st = start (turn c) in omega (arith, c .if1 .taken, nodes-le (st .args .net) (st .pre .0))
 
 pivot : (c : tie.Then1 Inv-loop μ-loop) (i : ℕ) → getD (turn c .loop .parent) i 0 < turn c .loop .s
-pivot c i = going-parent _ _ _ _ _ (turn c .loop .inv) i
+pivot c i = going-parent _ _ _ _ _ _ (turn c .loop .inv) i
 
 abbrev pivot-of : tie.Then1 Inv-loop μ-loop → ℕ
 pivot-of c = getD (turn c .loop .parent) (turn c .loop .s) 0
@@ -70,12 +71,13 @@ step c = c .before .before .before .before .before .before .before .before .befo
 
 cut : (c : tie.After-place Inv-loop μ-loop)
     → c .before .before .before .take .result
-    ≡ taken (start (turn (step c)) .args .net) (start (turn (step c)) .args .h)
-    (stepOf (start (turn (step c)) .args .t2) (turn (step c) .loop .s))
+    ≡ keptOrLeastBy (start (turn (step c)) .args .net) (survived (start (turn (step c)) .args .h))
+    (start (turn (step c)) .args .h .old - start (turn (step c)) .args .h .new) (start (turn (step c)) .args .t2)
     (turn (step c) .loop .s) (pivot-of (step c))
 cut c =
     c .before .before .before .take .ensures (start (turn (step c)) .args .net) (ready (step c))
     (turn (step c) .before .full-residual .ensures)
+    ∙ taken-is _ _ _ _ _
 
 incidence-of-requires : tie.Need-incidence-of-requires Inv-loop μ-loop
 incidence-of-requires c κs = c .pre .0
@@ -90,7 +92,7 @@ full-residual-requires : tie.Need-full-residual-requires Inv-loop μ-loop
 full-residual-requires c κs = c .before .before .before .before .before .before .before .pre .0
 
 loop-holds : tie.Need-loop-holds Inv-loop μ-loop
-loop-holds c = going-start _ _ _ _ refl
+loop-holds c = going-start _ _ _ _ _ refl
 
 array-read-t : tie.Need-array-read-t Inv-loop μ-loop
 array-read-t c = node c
@@ -148,7 +150,7 @@ array-write-value c = node (step c)
 add-count : tie.Need-add-count Inv-loop μ-loop
 add-count c =
     let i = step (c .before) in
-    omega (arith, node i, going-count _ _ _ _ _ (turn i .loop .inv) (c .before .before .before .before .take .result) (cut (c .before)))
+    omega (arith, node i, going-count _ _ _ _ _ _ (turn i .loop .inv) (c .before .before .before .before .take .result) (cut (c .before)))
 
 add-s : tie.Need-add-s Inv-loop μ-loop
 add-s c = omega (arith, node (step (c .before)))
@@ -162,14 +164,14 @@ loop-again c =
     let l = turn i .loop in
     let x = c .before .before .before .before .take .result in
     let p = c .before .place .ensures in
-    going-next _ _ _ _ _ (l .inv) x (cut (c .before)) (i .if1 .taken) _
+    going-next _ _ _ _ _ _ (l .inv) x (cut (c .before)) (i .if1 .taken) _
     (stepped-by (l .parent) (l .weight) (l .pivot) (l .side) (l .value) (l .count) (l .s) (pivot-of i) x _ _ (p .0) (p .1))
 
 built-requires : tie.Need-built-requires Inv-loop μ-loop
 built-requires c κs = search needs
 
 returns : tie.Need-returns Inv-loop μ-loop
-returns c = c .built .ensures ∙ going-end _ _ _ _ _ (c .before .before .before .loop .inv) (c .before .if1 .left)
+returns c = c .built .ensures ∙ going-end _ _ _ _ _ _ (c .before .before .before .loop .inv) (c .before .if1 .left)
 
 pub worked-out-spec : {M : Type 1} → statement M
 worked-out-spec =

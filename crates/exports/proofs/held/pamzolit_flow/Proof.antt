@@ -139,7 +139,7 @@ module _ {M : Type 1} (𝓤 : URA M) (H : Heap 𝓤) (A : Atoms 𝓤) (W : Given
     walk : Is (MutSlice (named 1) κ′ i32) out (sv ∷ []) → Room i32 (length ys)
         → ent 𝓤 (onEntry 𝓤 H A f.signature (κ, (κ′, tt)) (q, (q′, tt)) x at)
         (WpFn 𝓤 H C Λ code.function (vptr b o ∷ vint w64 s ∷ vint w64 t ∷ sv ∷ []) Post)
-    walk out-is room =
+    walk out-is fits =
         qed W ((‵ (flft κ q) ⊛ ‵ (flft κ′ q′) ⊛ ‵ ftrue)
         ∷ ‵ (owns (ShrRef (named 0) κ P.the-row ∷ usize ∷ usize ∷ MutSlice (named 1) κ′ i32 ∷ []) x at) ∷ []) ∵
         split ! $ move ! (1 ∷ []) $ split ! $ move ! (3 ∷ []) $ fsplit ! $ fsplit3 ! $ drop ! $ move ! (2 ∷ []) $
@@ -172,7 +172,7 @@ module _ {M : Type 1} (𝓤 : URA M) (H : Heap 𝓤) (A : Atoms 𝓤) (W : Given
         assigns ! (agg ! (and-then ! (load ! (from ! (stop !)) (look ! 4 refl))
         (and-then ! (load ! (from ! (fld ! refl (stop !))) (look-in ! 8 (sub ! 1 refl (whole !)))) (no-more !))))
         (from ! (stop !))
-        (init ! 2 refl (tt, (tt, (record { fits = room .0 }, tt)))) $
+        (init ! 2 refl (tt, (tt, (record { fits = fits .0 }, tt)))) $
         -- `flow`; the locals stand from 3 on
         move ! (19 ∷ 20 ∷ []) $ use2 W (raw (Given-g 𝓤 H A at-mem run .pre to-g)) (goes-g was) $
         calls-at ! fm (Given-g 𝓤 H A at-mem run) known to-g

@@ -142,7 +142,7 @@ module _ {M : Type 1} (𝓤 : URA M) (H : Heap 𝓤) (A : Atoms 𝓤) (W : Given
     walk : Is (MutSlice (named 1) κ′ u8) out (sv ∷ []) → Room u8 (length ys)
         → ent 𝓤 (onEntry 𝓤 H A f.signature (κ, (κ′, (κ″, tt))) (q, (q′, (q″, tt))) x at)
         (WpFn 𝓤 H C Λ code.function (vptr b o ∷ sv ∷ vptr b″ o″ ∷ []) Post)
-    walk out-is room =
+    walk out-is fits =
         qed W ((‵ (flft κ q) ⊛ ‵ (flft κ′ q′) ⊛ ‵ (flft κ″ q″) ⊛ ‵ ftrue)
         ∷ ‵ (owns (ShrRef (named 0) κ P.the-row ∷ MutSlice (named 1) κ′ u8 ∷ MutRef (named 2) κ″ usize ∷ []) x at)
         ∷ []) ∵
@@ -177,7 +177,7 @@ module _ {M : Type 1} (𝓤 : URA M) (H : Heap 𝓤) (A : Atoms 𝓤) (W : Given
         assigns ! (agg ! (and-then ! (load ! (from ! (stop !)) (look ! 4 refl))
         (and-then ! (load ! (from ! (fld ! refl (stop !))) (look-in ! 12 (sub ! 1 refl (whole !)))) (no-more !))))
         (from ! (stop !))
-        (init ! 2 refl (tt, (tt, (record { fits = room .0 }, tt)))) $
+        (init ! 2 refl (tt, (tt, (record { fits = fits .0 }, tt)))) $
         -- `write`; the locals stand from 3 on
         move ! (19 ∷ 20 ∷ []) $ use2 W (raw (Given-g 𝓤 H A at-mem run .pre to-g)) (goes-g was) $
         calls-at ! fm (Given-g 𝓤 H A at-mem run) known to-g

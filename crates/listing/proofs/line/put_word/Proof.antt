@@ -2,8 +2,8 @@
 use Prim.Native.Nat.{_-_, _≤_}
 use native.Mathlib.Omega.{arith}
 use lib.ListN.{length, drop}
-use Rattle.listing.specs.PutsLaws.{Owing, owing-all}
-use Rattle.listing.specs.LineLaws.{word-room, word-more, word-end}
+use Rattle.base.specs.laws.PutsLaws.{Owing, owing-all}
+use Rattle.listing.specs.laws.LineLaws.{word-fits, word-more, word-end}
 use Rattle.listing.proofs.line.put_word.Statement.{statement}
 use Rattle.listing.proofs.line.put_word.Tie as tie
 
@@ -22,12 +22,12 @@ shared-slice-read-out c = omega arith
 slice-write-out : tie.Need-slice-write-out Inv-loop μ-loop
 slice-write-out c =
     let l = c .before .before .loop in
-    omega (arith, l .inv .1 .size, word-room (l .inv .1) (c .before .loop-test .taken))
+    omega (arith, l .inv .1 .size, word-fits (l .inv .1) (c .before .loop-test .taken))
 
 add-next : tie.Need-add-next Inv-loop μ-loop
 add-next c =
     let l = c .before .before .loop in
-    record { fits = omega (arith, word-room (l .inv .1) (c .before .loop-test .taken)) }
+    record { fits = omega (arith, word-fits (l .inv .1) (c .before .loop-test .taken)) }
 
 add-k : tie.Need-add-k Inv-loop μ-loop
 add-k c = omega arith

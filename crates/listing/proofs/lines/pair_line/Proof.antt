@@ -4,8 +4,8 @@ use mathlib.Core.List.{[], _∷_}
 use native.Mathlib.Omega.{arith}
 use lib.ListN.{length}
 use Rattle.listing.specs.Listing.{pairWord, lineOf, pairLine}
-use Rattle.listing.specs.PutsLaws.{puts-same}
-use Rattle.listing.specs.LinesLaws.{pair-is}
+use Rattle.base.specs.laws.PutsLaws.{puts-same}
+use Rattle.listing.specs.laws.LinesLaws.{pair-is}
 use borrow.Author.Needs.{needs}
 use Rattle.listing.proofs.lines.pair_line.Statement.{statement}
 use Rattle.listing.proofs.lines.pair_line.Tie as tie

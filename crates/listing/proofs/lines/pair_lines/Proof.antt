@@ -2,9 +2,9 @@
 use Prim.Native.Nat.{_-_, _≤_}
 use native.Mathlib.Omega.{arith}
 use Rattle.listing.specs.Listing.{pairLines}
-use Rattle.listing.specs.Puts.{Puts}
-use Rattle.listing.specs.PutsLaws.{puts-length}
-use Rattle.listing.specs.LinesLaws.{lines-none, lines-room, lines-more, lines-end}
+use Rattle.base.specs.code.Puts.{Puts}
+use Rattle.base.specs.laws.PutsLaws.{puts-length}
+use Rattle.listing.specs.laws.LinesLaws.{lines-none, lines-fits, lines-more, lines-end}
 use Rattle.listing.proofs.lines.pair_lines.Statement.{statement}
 use Rattle.listing.proofs.lines.pair_lines.Tie as tie
 
@@ -20,8 +20,11 @@ loop-holds c = (omega arith, lines-none _ _ _)
 pairs-of-requires : tie.Need-pairs-of-requires Inv-loop μ-loop
 pairs-of-requires c κs =
     let st = c .before .before .before .before in
-    let l = c .before .before .loop in
-    (c .before .loop-test .taken, lines-room (st .args .p) (l .s) (l .inv .1) (st .args .p .network .nodes) (c .before .loop-test .taken) (st .pre))
+    let l = c .before .before .loop in (
+      c .before .loop-test .taken,
+      lines-fits (st .args .p) (l .s) (l .inv .1) (st .args .p .network .nodes) (c .before .loop-test .taken)
+          (st .pre),
+    )
 
 add-s : tie.Need-add-s Inv-loop μ-loop
 add-s c = omega arith
@@ -31,8 +34,11 @@ loop-less c = omega arith
 
 loop-again : tie.Need-loop-again Inv-loop μ-loop
 loop-again c =
-    let l = c .before .before .before .before .before .loop in
-    (omega arith, lines-more (c .before .before .before .before .before .before .before .args .p) (l .s) (l .inv .1) (c .before .before .pairs-of .ensures))
+    let l = c .before .before .before .before .before .loop in (
+      omega arith,
+      lines-more (c .before .before .before .before .before .before .before .args .p) (l .s) (l .inv .1)
+          (c .before .before .pairs-of .ensures),
+    )
 
 same-length : tie.Need-same-length Inv-loop μ-loop
 same-length c = puts-length (c .before .loop .inv .1)

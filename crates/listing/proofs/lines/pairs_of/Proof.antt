@@ -2,9 +2,9 @@
 use Prim.Native.Nat.{suc, _-_, _<_, _≤_}
 use native.Mathlib.Omega.{arith}
 use Rattle.listing.specs.Listing.{pairsOf}
-use Rattle.listing.specs.Puts.{Puts}
-use Rattle.listing.specs.PutsLaws.{puts-length}
-use Rattle.listing.specs.LinesLaws.{pairs-none, pairs-room, pairs-more, pairs-end}
+use Rattle.base.specs.code.Puts.{Puts}
+use Rattle.base.specs.laws.PutsLaws.{puts-length}
+use Rattle.listing.specs.laws.LinesLaws.{pairs-none, pairs-fits, pairs-more, pairs-end}
 use Rattle.listing.proofs.lines.pairs_of.Statement.{statement}
 use Rattle.listing.proofs.lines.pairs_of.Tie as tie
 
@@ -24,7 +24,8 @@ pair-line-requires : tie.Need-pair-line-requires Inv-loop μ-loop
 pair-line-requires c κs =
     let st = c .before .before .before .before in
     let l = c .before .before .loop in
-    pairs-room (st .args .p) (st .args .s) (l .t) (l .inv .0) (l .inv .2) (st .args .p .network .nodes) (c .before .loop-test .taken) (st .pre .1)
+    pairs-fits (st .args .p) (st .args .s) (l .t) (l .inv .0) (l .inv .2) (st .args .p .network .nodes) (c .before .loop-test .taken)
+    (st .pre .1)
 
 add-t-2 : tie.Need-add-t-2 Inv-loop μ-loop
 add-t-2 c = omega arith
@@ -34,8 +35,13 @@ loop-less c = omega arith
 
 loop-again : tie.Need-loop-again Inv-loop μ-loop
 loop-again c =
-    let l = c .before .before .before .before .before .loop in
-    (omega arith, omega arith, pairs-more (c .before .before .before .before .before .before .before .args .p) (c .before .before .before .before .before .before .before .args .s) (l .t) (l .inv .0) (l .inv .2) (c .before .before .pair-line .ensures))
+    let l = c .before .before .before .before .before .loop in (
+      omega arith,
+      omega arith,
+      pairs-more (c .before .before .before .before .before .before .before .args .p)
+          (c .before .before .before .before .before .before .before .args .s) (l .t) (l .inv .0) (l .inv .2)
+          (c .before .before .pair-line .ensures),
+    )
 
 same-length : tie.Need-same-length Inv-loop μ-loop
 same-length c = puts-length (c .before .loop .inv .2)

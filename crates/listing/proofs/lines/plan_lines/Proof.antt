@@ -1,7 +1,7 @@
 -- `plan_lines` meets its contract: the tree, then the pairs.
 use native.Mathlib.Omega.{arith}
-use Rattle.listing.specs.PutsLaws.{puts-length}
-use Rattle.listing.specs.LinesLaws.{plan-length, plan-puts}
+use Rattle.base.specs.laws.PutsLaws.{puts-length}
+use Rattle.listing.specs.laws.LinesLaws.{plan-length, plan-puts}
 use borrow.Author.Needs.{needs}
 use Rattle.listing.proofs.lines.plan_lines.Statement.{statement}
 use Rattle.listing.proofs.lines.plan_lines.Tie as tie
@@ -21,7 +21,9 @@ same-length : tie.Need-same-length
 same-length c = search needs
 
 returns : tie.Need-returns
-returns c = plan-puts (c .before .before .before .before .before .before .before .before .before .args .p) (c .before .before .before .before .before .before .tree-lines .ensures) (c .before .before .pair-lines .ensures)
+returns c =
+    plan-puts (c .before .before .before .before .before .before .before .before .before .args .p)
+    (c .before .before .before .before .before .before .tree-lines .ensures) (c .before .before .pair-lines .ensures)
 
 pub plan-lines-spec : {M : Type 1} → statement M
 plan-lines-spec = tie.close (tie.spec tree-lines-requires pair-lines-requires same-length returns)

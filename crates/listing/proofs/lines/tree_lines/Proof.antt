@@ -2,9 +2,9 @@
 use Prim.Native.Nat.{_-_, _≤_}
 use native.Mathlib.Omega.{arith}
 use Rattle.listing.specs.Listing.{treeLines}
-use Rattle.listing.specs.Puts.{Puts}
-use Rattle.listing.specs.PutsLaws.{puts-length}
-use Rattle.listing.specs.LinesLaws.{tree-none, tree-room, tree-more, tree-end}
+use Rattle.base.specs.code.Puts.{Puts}
+use Rattle.base.specs.laws.PutsLaws.{puts-length}
+use Rattle.listing.specs.laws.LinesLaws.{tree-none, tree-fits, tree-more, tree-end}
 use Rattle.listing.proofs.lines.tree_lines.Statement.{statement}
 use Rattle.listing.proofs.lines.tree_lines.Tie as tie
 
@@ -21,7 +21,7 @@ tree-line-requires : tie.Need-tree-line-requires Inv-loop μ-loop
 tree-line-requires c κs =
     let st = c .before .before .before .before in
     let l = c .before .before .loop in
-    (omega arith, tree-room (st .args .tree) (l .i) (l .inv .0) (l .inv .2) (st .args .nodes) (c .before .loop-test .taken) (st .pre .1))
+    (omega arith, tree-fits (st .args .tree) (l .i) (l .inv .0) (l .inv .2) (st .args .nodes) (c .before .loop-test .taken) (st .pre .1))
 
 add-i : tie.Need-add-i Inv-loop μ-loop
 add-i c = omega arith
@@ -31,8 +31,12 @@ loop-less c = omega arith
 
 loop-again : tie.Need-loop-again Inv-loop μ-loop
 loop-again c =
-    let l = c .before .before .before .before .before .loop in
-    (omega arith, omega arith, tree-more (c .before .before .before .before .before .before .before .args .tree) (l .i) (l .inv .0) (l .inv .2) (c .before .before .tree-line .ensures))
+    let l = c .before .before .before .before .before .loop in (
+      omega arith,
+      omega arith,
+      tree-more (c .before .before .before .before .before .before .before .args .tree) (l .i) (l .inv .0)
+          (l .inv .2) (c .before .before .tree-line .ensures),
+    )
 
 same-length : tie.Need-same-length Inv-loop μ-loop
 same-length c = puts-length (c .before .loop .inv .2)
@@ -40,7 +44,8 @@ same-length c = puts-length (c .before .loop .inv .2)
 returns : tie.Need-returns Inv-loop μ-loop
 returns c =
     let l = c .before .loop in
-    tree-end (c .before .before .before .args .tree) (l .i) (l .inv .0) (l .inv .2) (c .before .before .before .args .nodes) (l .inv .1) (c .loop-test .left)
+    tree-end (c .before .before .before .args .tree) (l .i) (l .inv .0) (l .inv .2) (c .before .before .before .args .nodes) (l .inv .1)
+    (c .loop-test .left)
 
 pub tree-lines-spec : {M : Type 1} → statement M
 tree-lines-spec =

@@ -5,14 +5,14 @@ use native.Mathlib.Omega.{arith}
 use lib.Dec.{lit<}
 use borrow.Author.Needs.{needs, scaled-fits}
 use borrow.Author.Tests.{not-true, not-false}
-use Rattle.network.specs.Basics.{at}
+use Rattle.base.specs.Basics.{at}
 use Rattle.network.specs.Limits.{maxNodes, maxValue}
 use Rattle.network.specs.declared.Network.{Network}
-use Rattle.max_flow.specs.LinkFlows.{moderate}
-use Rattle.max_flow.specs.Residuals.{fullResidual, Flowing}
-use Rattle.max_flow.specs.Search.{Ready}
-use Rattle.max_flow.specs.Augment.{Growth, flowing-start, flow-le, grows, sending, at-end, ends-lt, last-lt}
-use Rattle.max_flow.specs.Send.{ready-consistent}
+use Rattle.max_flow.specs.code.LinkFlows.{moderate}
+use Rattle.max_flow.specs.code.Residuals.{fullResidual, Flowing}
+use Rattle.max_flow.specs.code.Search.{Ready}
+use Rattle.max_flow.specs.code.Augment.{Growth, flowing-start, flow-le, grows, sending, at-end, ends-lt, last-lt}
+use Rattle.max_flow.specs.code.Send.{ready-consistent}
 use Rattle.max_flow.specs.declared.search.SearchTree.{SearchTree}
 use Rattle.max_flow.proofs.augment.augment.Statement.{statement}
 use Rattle.max_flow.proofs.augment.augment.Tie as tie

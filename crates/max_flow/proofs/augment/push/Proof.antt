@@ -4,7 +4,7 @@ use native.Mathlib.Omega.{arith}
 use lib.Dec.{lit<}
 use borrow.Author.Needs.{fits-under, scaled-fits}
 use Rattle.network.specs.declared.Network.{Network}
-use Rattle.max_flow.specs.Push.{Sending, Half, OnPath, half-start, half-next, half-end, on-path}
+use Rattle.max_flow.specs.code.Push.{Sending, Half, OnPath, half-start, half-next, half-end, on-path}
 use Rattle.max_flow.proofs.augment.push.Statement.{statement}
 use Rattle.max_flow.proofs.augment.push.Tie as tie
 

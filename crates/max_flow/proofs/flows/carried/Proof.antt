@@ -1,6 +1,6 @@
 -- `carried` gives the difference of two numbers that fit 31 bits.
 use borrow.Author.Needs.{needs}
-use Rattle.max_flow.specs.Signed.{difference-fits, difference-is}
+use Rattle.base.specs.laws.Signed.{difference-fits, difference-is}
 use Rattle.max_flow.proofs.flows.carried.Statement.{statement}
 use Rattle.max_flow.proofs.flows.carried.Tie as tie
 

@@ -1,6 +1,6 @@
 -- `along` changes one row.
 use native.Mathlib.Omega.{arith}
-use Rattle.max_flow.specs.ResidualLaws.{arc-lt, along-fits}
+use Rattle.max_flow.specs.laws.ResidualLaws.{arc-lt, along-fits}
 use borrow.Author.Needs.{needs}
 use Rattle.max_flow.proofs.residual.along.Statement.{statement}
 use Rattle.max_flow.proofs.residual.along.Tie as tie

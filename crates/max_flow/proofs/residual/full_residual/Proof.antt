@@ -5,8 +5,8 @@ use borrow.Author.Needs.{needs}
 use mathlib.Core.Path.{_≡_}
 use native.Mathlib.Numerals.{add-one}
 use Rattle.network.specs.Limits.{maxLinks}
-use Rattle.network.specs.NetworkLaws.{links-le}
-use Rattle.max_flow.specs.Residuals.{fullUpTo}
+use Rattle.network.specs.laws.NetworkLaws.{links-le}
+use Rattle.max_flow.specs.code.Residuals.{fullUpTo}
 use Rattle.max_flow.proofs.residual.full_residual.Statement.{statement}
 use Rattle.max_flow.proofs.residual.full_residual.Tie as tie
 

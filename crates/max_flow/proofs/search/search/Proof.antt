@@ -7,14 +7,14 @@ use native.Mathlib.Omega.{arith}
 use lib.Dec.{lit<}
 use borrow.Author.Needs.{fits-under, scaled-fits}
 use borrow.Author.Tests.{not-true, not-false}
-use Rattle.min_cut.specs.Word.{holds}
-use Rattle.network.specs.Basics.{at}
+use Rattle.base.specs.Word.{holds}
+use Rattle.base.specs.Basics.{at}
 use Rattle.network.specs.Limits.{maxNodes}
 use Rattle.network.specs.declared.Network.{Network}
-use Rattle.max_flow.specs.Search.{Ready, grownBy}
-use Rattle.max_flow.specs.Scan.{Outer, Inner, Placed, Looking, Fresh, outer-start, outer-end, outer-next, placed}
-use Rattle.max_flow.specs.Scan.{inner-start, looking, next-full, next-held, next-new, hit-new}
-use Rattle.max_flow.specs.Augment.{ends-lt}
+use Rattle.max_flow.specs.code.Search.{Ready, grownBy}
+use Rattle.max_flow.specs.code.Scan.{Outer, Inner, Placed, Looking, Fresh, outer-start, outer-end, outer-next, placed}
+use Rattle.max_flow.specs.code.Scan.{inner-start, looking, next-full, next-held, next-new, hit-new}
+use Rattle.max_flow.specs.code.Augment.{ends-lt}
 use Rattle.max_flow.specs.declared.search.SearchTree.{SearchTree}
 use Rattle.max_flow.proofs.search.search.Statement.{statement}
 use Rattle.max_flow.proofs.search.search.Tie as tie

@@ -1,7 +1,7 @@
 -- `seed` gives the tree that holds s alone.
 use mathlib.Core.Path.{ap, _∙_}
 use borrow.Author.Needs.{needs}
-use Rattle.max_flow.specs.Search.{seedBy}
+use Rattle.max_flow.specs.code.Search.{seedBy}
 use Rattle.node_set.specs.Set.{added}
 use Rattle.max_flow.proofs.search.seed.Statement.{statement}
 use Rattle.max_flow.proofs.search.seed.Tie as tie

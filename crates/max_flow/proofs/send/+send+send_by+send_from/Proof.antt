@@ -5,7 +5,7 @@ use native.Mathlib.Omega.{arith}
 use borrow.Author.Needs.{needs}
 use Rattle.network.specs.Limits.{maxArcs}
 use Rattle.network.specs.declared.Network.{Network}
-use Rattle.max_flow.specs.Send.{Consistent, Sends, consistent-next, send-there, send-none, send-more, send-along, send-way}
+use Rattle.max_flow.specs.code.Send.{Consistent, Sends, consistent-next, send-there, send-none, send-more, send-along, send-way}
 use borrow.Fn.Kinds.{In}
 use borrow.Fn.PlainCycle.{Measures, is, falls, and}
 use Rattle.max_flow.proofs.send.send.Reads as send
@@ -101,7 +101,8 @@ abbrev send-μ-loop : send-lts.MeasureT-loop
 send-μ-loop to table hints₀ residual₀ t u l on limit sent₀ x₀ j₀ k₀ hints residual sent x j k = maxArcs - k
 
 -- the turn that an arc is tried in, and what is sent after it
-abbrev tried : (t : ℕ) → send-lts.After-send-by (send-claims t) (send-at t) send.Post send-Inv-loop send-μ-loop → send-lts.At-loop (send-claims t) (send-at t) send.Post send-Inv-loop send-μ-loop
+abbrev tried : (t : ℕ) → send-lts.After-send-by (send-claims t) (send-at t) send.Post send-Inv-loop send-μ-loop
+    → send-lts.At-loop (send-claims t) (send-at t) send.Post send-Inv-loop send-μ-loop
 tried t c = c .before .before .before .before .before .before .before .before .before .before
 
 sent : (t : ℕ) (c : send-lts.After-send-by (send-claims t) (send-at t) send.Post send-Inv-loop send-μ-loop) (net : Network)

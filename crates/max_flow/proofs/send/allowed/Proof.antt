@@ -1,9 +1,9 @@
 -- `allowed` tests an arc: what has room, and leads where it should, is a way.
 use mathlib.Core.Path.{sym, ap, _∙_}
 use native.Mathlib.Omega.{arith}
-use Rattle.network.specs.Basics.{at}
-use Rattle.max_flow.specs.ResidualLaws.{room-read}
-use Rattle.max_flow.specs.Send.{other-lt, way}
+use Rattle.base.specs.Basics.{at}
+use Rattle.max_flow.specs.laws.ResidualLaws.{spare-read}
+use Rattle.max_flow.specs.code.Send.{other-lt, way}
 use borrow.Author.Needs.{needs}
 use Rattle.max_flow.proofs.send.allowed.Statement.{statement}
 use Rattle.max_flow.proofs.send.allowed.Tie as tie
@@ -59,7 +59,7 @@ returns-4 c =
     ∙ tail .if2 .left
     )
     (sym (c .before .before .contains .ensures) ∙ c .before .if3 .left)
-    (room-read (st .args .residual .now) (st .args .j)) p
+    (spare-read (st .args .residual .now) (st .args .j)) p
 
 pub allowed-spec : {M : Type 1} → statement M
 allowed-spec =

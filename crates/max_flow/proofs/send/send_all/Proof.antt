@@ -3,9 +3,9 @@ use Prim.Native.Nat.{ℕ, _+_, _-_, _≤_}
 use native.Mathlib.Omega.{arith}
 use Rattle.network.specs.Limits.{maxNodes}
 use Rattle.network.specs.declared.Network.{Network}
-use Rattle.max_flow.specs.Augment.{ends-lt, flow-le}
-use Rattle.max_flow.specs.Residuals.{Flowing}
-use Rattle.max_flow.specs.Send.{Consistent, flow-none, flow-more, consistent-flow}
+use Rattle.max_flow.specs.code.Augment.{ends-lt, flow-le}
+use Rattle.max_flow.specs.code.Residuals.{Flowing}
+use Rattle.max_flow.specs.code.Send.{Consistent, flow-none, flow-more, consistent-flow}
 use Rattle.max_flow.proofs.send.send_all.Statement.{statement}
 use Rattle.max_flow.proofs.send.send_all.Tie as tie
 

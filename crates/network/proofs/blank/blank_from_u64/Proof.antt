@@ -3,8 +3,8 @@ use mathlib.Core.Path.{_≡_, refl, sym, _∙_}
 use Prim.Native.Nat.{_-_}
 use native.Mathlib.Omega.{arith}
 use lib.ListN.{length}
-use Rattle.network.specs.Basics.{blankFrom}
-use Rattle.network.specs.BasicsLaws.{blank-end, blank-more, blank-fails}
+use Rattle.base.specs.Basics.{blankFrom}
+use Rattle.base.specs.laws.BlankLaws.{blank-end, blank-more, blank-fails}
 use Rattle.network.proofs.blank.blank_from_u64.Statement.{statement}
 use Rattle.network.proofs.blank.blank_from_u64.Tie as tie
 
@@ -43,4 +43,5 @@ returns-2 : tie.Need-returns-2 Inv-loop μ-loop
 returns-2 c = sym (sym (c .before .loop .inv) ∙ blank-end _ _ (c .loop-test .left))
 
 pub blank-from-u64-spec : {M : Type 1} → statement M
-blank-from-u64-spec = tie.close (tie.spec Inv-loop μ-loop loop-holds mul-if1 shared-slice-read-if1 returns add-i loop-less loop-again returns-2)
+blank-from-u64-spec =
+    tie.close (tie.spec Inv-loop μ-loop loop-holds mul-if1 shared-slice-read-if1 returns add-i loop-less loop-again returns-2)

@@ -3,8 +3,8 @@ use mathlib.Core.Path.{_≡_, refl, sym, _∙_}
 use Prim.Native.Nat.{_-_}
 use native.Mathlib.Omega.{arith}
 use lib.ListN.{length}
-use Rattle.network.specs.Basics.{blankFrom}
-use Rattle.network.specs.BasicsLaws.{blank-end, blank-more, blank-fails}
+use Rattle.base.specs.Basics.{blankFrom}
+use Rattle.base.specs.laws.BlankLaws.{blank-end, blank-more, blank-fails}
 use Rattle.network.proofs.blank.blank_from_u8.Statement.{statement}
 use Rattle.network.proofs.blank.blank_from_u8.Tie as tie
 

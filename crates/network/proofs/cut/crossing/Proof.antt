@@ -1,6 +1,6 @@
 -- `network::cut::crossing` meets its contract: one way of the test at each return.
 use borrow.Author.Needs.{needs}
-use Rattle.network.specs.NetworkLaws.{crossing-none, crossing-all}
+use Rattle.network.specs.laws.NetworkLaws.{crossing-none, crossing-all}
 use Rattle.network.proofs.cut.crossing.Statement.{statement}
 use Rattle.network.proofs.cut.crossing.Tie as tie
 

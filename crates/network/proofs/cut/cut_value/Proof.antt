@@ -2,8 +2,8 @@
 use mathlib.Core.Path.{_≡_, sym, ap, _∙_}
 use Prim.Native.Nat.{_≤_, _-_, _+_}
 use native.Mathlib.Omega.{arith}
-use Rattle.min_cut.specs.Word.{holds}
-use Rattle.network.specs.NetworkLaws.{link-places, valueBefore, value-none, value-more, value-all, value-before-le}
+use Rattle.base.specs.Word.{holds}
+use Rattle.network.specs.laws.NetworkLaws.{link-places, valueBefore, value-none, value-more, value-all, value-before-le}
 use Rattle.network.proofs.cut.cut_value.Statement.{statement}
 use Rattle.network.proofs.cut.cut_value.Tie as tie
 
@@ -20,7 +20,8 @@ loop-holds c = (omega arith, sym (value-none (c .args .t1) (holds (c .args .side
 more : (c : tie.After-crossing Inv-loop μ-loop) →
     let turn = c .before .before .before .before in
     let start = turn .before .before in
-    (turn .before .loop .value + c .crossing .result ≡ valueBefore (start .args .t1) (holds (start .args .side)) (turn .before .loop .k + 1))
+    (turn .before .loop .value + c .crossing .result
+    ≡ valueBefore (start .args .t1) (holds (start .args .side)) (turn .before .loop .k + 1))
 more c =
     let turn = c .before .before .before .before in
     let start = turn .before .before in
@@ -48,7 +49,11 @@ add-value : tie.Need-add-value Inv-loop μ-loop
 add-value c =
     let turn = c .before .before .before .before in
     let start = turn .before .before in
-    omega (arith, more c, value-before-le (start .args .t1) (holds (start .args .side)) (start .pre) (turn .before .loop .k + 1) (omega arith))
+    omega (
+      arith,
+      more c,
+      value-before-le (start .args .t1) (holds (start .args .side)) (start .pre) (turn .before .loop .k + 1) (omega arith),
+    )
 
 add-k : tie.Need-add-k Inv-loop μ-loop
 add-k c = omega (arith, element-copy-out-crossing (c .before .before .before .before))

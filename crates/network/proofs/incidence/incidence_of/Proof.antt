@@ -2,10 +2,10 @@
 use mathlib.Core.Path.{_≡_}
 use Prim.Native.Nat.{_≤_, _<_, _-_, _*_}
 use native.Mathlib.Omega.{arith}
-use Rattle.network.specs.Basics.{at}
+use Rattle.base.specs.Basics.{at}
 use Rattle.network.specs.Limits.{maxNodes, maxLinks}
-use Rattle.network.specs.NetworkLaws.{link-places}
-use Rattle.network.specs.IncidenceLaws.{Built, built-none, built-link}
+use Rattle.network.specs.laws.NetworkLaws.{link-places}
+use Rattle.network.specs.laws.IncidenceLaws.{Built, built-none, built-link}
 use Rattle.network.proofs.incidence.incidence_of.Statement.{statement}
 use Rattle.network.proofs.incidence.incidence_of.Tie as tie
 
@@ -17,7 +17,8 @@ abbrev μ-loop : tie.MeasureT-loop
 
 -- the link's number, and its ends
 within : (c : tie.In-loop Inv-loop μ-loop) →
-    (c .before .loop .k < maxLinks) × (at (c .before .before .args .t1 .a) (c .before .loop .k) < maxNodes) × (at (c .before .before .args .t1 .b) (c .before .loop .k) < maxNodes)
+    (c .before .loop .k < maxLinks) × (at (c .before .before .args .t1 .a) (c .before .loop .k) < maxNodes)
+    × (at (c .before .before .args .t1 .b) (c .before .loop .k) < maxNodes)
 within c = link-places (c .before .before .args .t1) (c .before .before .pre) _ (c .loop-test .taken)
 
 loop-holds : tie.Need-loop-holds Inv-loop μ-loop
@@ -54,8 +55,10 @@ loop-again c =
     let turn = c .before .before .before .before .before .before .before .before .before .before in
     let l = turn .before .loop in (
       omega arith,
-      built-link (turn .before .before .args .t1) (turn .before .before .pre) (l .k) (l .first) (l .next) (l .to) (there .last .0) (there .last .1 .0) (there .last .1 .1 .0) (back .last .0) (back .last .1 .0) (back .last .1 .1 .0)
-          (l .inv .1) (turn .loop-test .taken) (there .ensures .0) (there .ensures .1 .0) (there .ensures .1 .1) (back .ensures .0) (back .ensures .1 .0) (back .ensures .1 .1),
+      built-link (turn .before .before .args .t1) (turn .before .before .pre) (l .k) (l .first) (l .next) (l .to) (there .last .0)
+          (there .last .1 .0) (there .last .1 .1 .0) (back .last .0) (back .last .1 .0) (back .last .1 .1 .0)
+          (l .inv .1) (turn .loop-test .taken) (there .ensures .0) (there .ensures .1 .0) (there .ensures .1 .1) (back .ensures .0)
+          (back .ensures .1 .0) (back .ensures .1 .1),
     )
 
 returns : tie.Need-returns Inv-loop μ-loop

@@ -2,8 +2,8 @@
 use mathlib.Core.Path.{ap}
 use native.Mathlib.Omega.{arith}
 use lib.ListN.{length}
-use Rattle.network_file.specs.NumberSteps.{no-groups, one-group, some-groups}
-use Rattle.network_file.specs.LengthLaws.{groups-most}
+use Rattle.network_file.specs.laws.NumberSteps.{no-groups, one-group, some-groups}
+use Rattle.network_file.specs.laws.LengthLaws.{groups-most}
 use Prim.Native.Nat.{ℕ, _-_, _/_, _<_}
 use borrow.Fn.Kinds.{In}
 use borrow.Fn.PlainCycle.{Measures, is, falls, and}
@@ -28,35 +28,31 @@ groups-length-below t =
     (falls 0 groups-length-kinds.ps _<_ μ-groups-length t)
     groups-length.Pre
 
--- src/numbers.rt:59:9
 groups-length-returns : (t : ℕ) → groups-length-lts.Need-returns (
   groups-length-below t,
   groups-length.Post,
 ) (groups-length-at t) groups-length.Post
 groups-length-returns t c = rw (no-groups (c .before .args .left) (c .before .args .v) (c .if1 .taken))
 
--- src/numbers.rt:62:9
 groups-length-returns-2 : (t : ℕ) → groups-length-lts.Need-returns-2 (
   groups-length-below t,
   groups-length.Post,
 ) (groups-length-at t) groups-length.Post
-groups-length-returns-2 t c = rw (one-group (c .before .before .args .left) (c .before .before .args .v) (c .before .if1 .left) (c .if2 .taken))
+groups-length-returns-2 t c =
+    rw (one-group (c .before .before .args .left) (c .before .before .args .v) (c .before .if1 .left) (c .if2 .taken))
 
--- src/numbers.rt:64:28
 groups-length-sub-groups-length : (t : ℕ) → groups-length-lts.Need-sub-groups-length (
   groups-length-below t,
   groups-length.Post,
 ) (groups-length-at t) groups-length.Post
 groups-length-sub-groups-length t c = omega arith
 
--- src/numbers.rt:64:5
 groups-length-groups-length-requires : (t : ℕ) → groups-length-lts.Need-groups-length-requires (
   groups-length-below t,
   groups-length.Post,
 ) (groups-length-at t) groups-length.Post
 groups-length-groups-length-requires t c κs = omega arith
 
--- src/numbers.rt:64:5
 groups-length-add-result : (t : ℕ) → groups-length-lts.Need-add-result (
   groups-length-below t,
   groups-length.Post,
@@ -65,7 +61,6 @@ groups-length-add-result t c =
     let st = c .before .before .before in
     omega (arith, groups-most (st .args .left - 1) (st .args .v / 128))
 
--- src/numbers.rt:54:1
 groups-length-returns-3 : (t : ℕ) → groups-length-lts.Need-returns-3 (
   groups-length-below t,
   groups-length.Post,

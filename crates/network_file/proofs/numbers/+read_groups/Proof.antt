@@ -3,7 +3,7 @@ use mathlib.Core.Path.{sym, ap, subst, _∙_}
 use native.Mathlib.Omega.{arith}
 use Rattle.network.specs.Limits.{maxGroups}
 use Rattle.network_file.specs.Number.{continued}
-use Rattle.network_file.specs.NumberSteps.{at-most-none, at-nothing, at-last, at-more, Small, rest-small}
+use Rattle.network_file.specs.laws.NumberSteps.{at-most-none, at-nothing, at-last, at-more, Small, rest-small}
 use borrow.Author.Needs.{needs}
 use Prim.Native.Nat.{ℕ, _-_, _<_}
 use borrow.Fn.Kinds.{In}
@@ -26,7 +26,6 @@ abbrev read-groups-below : ℕ → In 1 read-groups-kinds.ps
 read-groups-below t =
     and 1 read-groups-kinds.ps (falls 1 read-groups-kinds.ps _<_ μ-read-groups t) read-groups.Pre
 
--- src/numbers.rt:33:9
 read-groups-returns : (t : ℕ) → read-groups-lts.Need-returns (
   read-groups-below t,
   read-groups.Post,
@@ -35,7 +34,6 @@ read-groups-returns : (t : ℕ) → read-groups-lts.Need-returns (
 ) (read-groups-at t) read-groups.Post
 read-groups-returns t c = at-most-none _ _ (c .if1 .taken)
 
--- src/numbers.rt:36:9
 read-groups-returns-2 : (t : ℕ) → read-groups-lts.Need-returns-2 (
   read-groups-below t,
   read-groups.Post,
@@ -44,7 +42,6 @@ read-groups-returns-2 : (t : ℕ) → read-groups-lts.Need-returns-2 (
 ) (read-groups-at t) read-groups.Post
 read-groups-returns-2 t c = at-nothing _ _ (c .before .if1 .left) (c .if2 .taken)
 
--- src/numbers.rt:38:13
 read-groups-shared-slice-read-x : (t : ℕ) → read-groups-lts.Need-shared-slice-read-x (
   read-groups-below t,
   read-groups.Post,
@@ -53,7 +50,6 @@ read-groups-shared-slice-read-x : (t : ℕ) → read-groups-lts.Need-shared-slic
 ) (read-groups-at t) read-groups.Post
 read-groups-shared-slice-read-x t c = search needs
 
--- src/numbers.rt:40:30
 read-groups-cast-t9 : (t : ℕ) → read-groups-lts.Need-cast-t9 (
   read-groups-below t,
   read-groups.Post,
@@ -62,7 +58,6 @@ read-groups-cast-t9 : (t : ℕ) → read-groups-lts.Need-cast-t9 (
 ) (read-groups-at t) read-groups.Post
 read-groups-cast-t9 t c = search needs
 
--- src/numbers.rt:40:9
 read-groups-returns-3 : (t : ℕ) → read-groups-lts.Need-returns-3 (
   read-groups-below t,
   read-groups.Post,
@@ -71,7 +66,6 @@ read-groups-returns-3 : (t : ℕ) → read-groups-lts.Need-returns-3 (
 ) (read-groups-at t) read-groups.Post
 read-groups-returns-3 t c = at-last _ _ (c .before .before .before .if1 .left) (c .before .before .if2 .left) (c .if3 .taken)
 
--- src/numbers.rt:42:28
 read-groups-sub-read-groups : (t : ℕ) → read-groups-lts.Need-sub-read-groups (
   read-groups-below t,
   read-groups.Post,
@@ -80,7 +74,6 @@ read-groups-sub-read-groups : (t : ℕ) → read-groups-lts.Need-sub-read-groups
 ) (read-groups-at t) read-groups.Post
 read-groups-sub-read-groups t c = search needs
 
--- src/numbers.rt:42:28
 read-groups-part-read-groups-start : (t : ℕ) → read-groups-lts.Need-part-read-groups-start (
   read-groups-below t,
   read-groups.Post,
@@ -89,7 +82,6 @@ read-groups-part-read-groups-start : (t : ℕ) → read-groups-lts.Need-part-rea
 ) (read-groups-at t) read-groups.Post
 read-groups-part-read-groups-start t c = search needs
 
--- src/numbers.rt:42:28
 read-groups-part-read-groups-end : (t : ℕ) → read-groups-lts.Need-part-read-groups-end (
   read-groups-below t,
   read-groups.Post,
@@ -98,7 +90,6 @@ read-groups-part-read-groups-end : (t : ℕ) → read-groups-lts.Need-part-read-
 ) (read-groups-at t) read-groups.Post
 read-groups-part-read-groups-end t c = search needs
 
--- src/numbers.rt:42:37
 read-groups-sub-read-groups-2 : (t : ℕ) → read-groups-lts.Need-sub-read-groups-2 (
   read-groups-below t,
   read-groups.Post,
@@ -107,7 +98,6 @@ read-groups-sub-read-groups-2 : (t : ℕ) → read-groups-lts.Need-sub-read-grou
 ) (read-groups-at t) read-groups.Post
 read-groups-sub-read-groups-2 t c = search needs
 
--- src/numbers.rt:42:9
 read-groups-read-groups-requires : (t : ℕ) → read-groups-lts.Need-read-groups-requires (
   read-groups-below t,
   read-groups.Post,
@@ -116,7 +106,6 @@ read-groups-read-groups-requires : (t : ℕ) → read-groups-lts.Need-read-group
 ) (read-groups-at t) read-groups.Post
 read-groups-read-groups-requires t c κs = omega arith
 
--- src/numbers.rt:43:5
 read-groups-continued-by-requires : (t : ℕ) → read-groups-lts.Need-continued-by-requires (
   read-groups-below t,
   read-groups.Post,
@@ -125,11 +114,11 @@ read-groups-continued-by-requires : (t : ℕ) → read-groups-lts.Need-continued
 ) (read-groups-at t) read-groups.Post
 read-groups-continued-by-requires t c κs =
     let st = c .before .before .before .before .before .before .before in
-    let h = rest-small (st .args .left) (st .args .s .now) (λ i. omega (arith, c .before .before .before .shared-slice-known2 .given i)) (st .pre .1) in
+    let h = rest-small (st .args .left) (st .args .s .now) (λ i. omega (arith, c .before .before .before .shared-slice-known2 .given i))
+    (st .pre .1) in
     let rest : Small (maxGroups - 1) (c .read-groups .result) = subst (Small (maxGroups - 1)) (sym (c .read-groups .ensures)) h in
     (c .before .before .if3 .left, rest .value, omega (arith, rest .size))
 
--- src/numbers.rt:28:1
 read-groups-returns-4 : (t : ℕ) → read-groups-lts.Need-returns-4 (
   read-groups-below t,
   read-groups.Post,

@@ -1,8 +1,9 @@
--- `write_groups` meets its contract: each way through it writes the bytes of one clause of `groupBytes`. The measure is the groups that are left.
+-- `write_groups` meets its contract: each way through it writes the bytes of one clause of `groupBytes`. The measure is the groups that are
+-- left.
 use mathlib.Core.Path.{refl, ap, _∙_}
 use native.Mathlib.Omega.{arith}
 use lib.ListN.{length, length-set}
-use Rattle.network_file.specs.NumberSteps.{no-groups, one-group, some-groups, place-more, sets-more}
+use Rattle.network_file.specs.laws.NumberSteps.{no-groups, one-group, some-groups, place-more, sets-more}
 use borrow.Author.Needs.{needs}
 use Prim.Native.Nat.{ℕ, _<_}
 use borrow.Fn.Kinds.{In}
@@ -28,21 +29,18 @@ write-groups-below t =
     (falls 1 write-groups-kinds.ps _<_ μ-write-groups t)
     write-groups.Pre
 
--- src/numbers.rt:81:9
 write-groups-returns : (t : ℕ) → write-groups-lts.Need-returns (
   write-groups-below t,
   write-groups.Post,
 ) (write-groups-at t) write-groups.Post
 write-groups-returns t c = rw (no-groups (c .before .before .args .left) (c .before .before .args .v) (c .if1 .taken)) (omega arith, refl)
 
--- src/numbers.rt:84:22
 write-groups-cast-out : (t : ℕ) → write-groups-lts.Need-cast-out (
   write-groups-below t,
   write-groups.Post,
 ) (write-groups-at t) write-groups.Post
 write-groups-cast-out t c = search needs
 
--- src/numbers.rt:84:9
 write-groups-slice-write-out : (t : ℕ) → write-groups-lts.Need-slice-write-out (
   write-groups-below t,
   write-groups.Post,
@@ -51,21 +49,18 @@ write-groups-slice-write-out t c =
     let st = c .before .before .before in
     omega (arith, ap length (one-group (st .args .left) (st .args .v) (c .before .if1 .left) (c .if2 .taken)))
 
--- src/numbers.rt:85:16
 write-groups-add-result : (t : ℕ) → write-groups-lts.Need-add-result (
   write-groups-below t,
   write-groups.Post,
 ) (write-groups-at t) write-groups.Post
 write-groups-add-result t c = search needs
 
--- src/numbers.rt:85:9
 write-groups-same-length : (t : ℕ) → write-groups-lts.Need-same-length (
   write-groups-below t,
   write-groups.Post,
 ) (write-groups-at t) write-groups.Post
 write-groups-same-length t c = search needs
 
--- src/numbers.rt:85:9
 write-groups-returns-2 : (t : ℕ) → write-groups-lts.Need-returns-2 (
   write-groups-below t,
   write-groups.Post,
@@ -74,21 +69,18 @@ write-groups-returns-2 t c =
     let st = c .before .before .before in
     rw (one-group (st .args .left) (st .args .v) (c .before .if1 .left) (c .if2 .taken)) (refl, refl)
 
--- src/numbers.rt:87:19
 write-groups-add-out : (t : ℕ) → write-groups-lts.Need-add-out (
   write-groups-below t,
   write-groups.Post,
 ) (write-groups-at t) write-groups.Post
 write-groups-add-out t c = search needs
 
--- src/numbers.rt:87:18
 write-groups-cast-out-2 : (t : ℕ) → write-groups-lts.Need-cast-out-2 (
   write-groups-below t,
   write-groups.Post,
 ) (write-groups-at t) write-groups.Post
 write-groups-cast-out-2 t c = search needs
 
--- src/numbers.rt:87:5
 write-groups-slice-write-out-2 : (t : ℕ) → write-groups-lts.Need-slice-write-out-2 (
   write-groups-below t,
   write-groups.Post,
@@ -97,21 +89,18 @@ write-groups-slice-write-out-2 t c =
     let st = c .before .before .before in
     omega (arith, ap length (some-groups (st .args .left) (st .args .v) (c .before .if1 .left) (c .if2 .left)))
 
--- src/numbers.rt:88:23
 write-groups-add-write-groups : (t : ℕ) → write-groups-lts.Need-add-write-groups (
   write-groups-below t,
   write-groups.Post,
 ) (write-groups-at t) write-groups.Post
 write-groups-add-write-groups t c = search needs
 
--- src/numbers.rt:88:43
 write-groups-sub-write-groups : (t : ℕ) → write-groups-lts.Need-sub-write-groups (
   write-groups-below t,
   write-groups.Post,
 ) (write-groups-at t) write-groups.Post
 write-groups-sub-write-groups t c = search needs
 
--- src/numbers.rt:88:5
 write-groups-write-groups-requires : (t : ℕ) → write-groups-lts.Need-write-groups-requires (
   write-groups-below t,
   write-groups.Post,
@@ -121,14 +110,12 @@ write-groups-write-groups-requires t c κs =
     let e = ap length (some-groups (st .args .left) (st .args .v) (c .before .before .if1 .left) (c .before .if2 .left)) in
     (omega arith, simp length-set (omega arith))
 
--- src/numbers.rt:75:1
 write-groups-same-length-2 : (t : ℕ) → write-groups-lts.Need-same-length-2 (
   write-groups-below t,
   write-groups.Post,
 ) (write-groups-at t) write-groups.Post
 write-groups-same-length-2 t c = c .before .before .write-groups .kept .0 ∙ simp length-set
 
--- src/numbers.rt:75:1
 write-groups-returns-3 : (t : ℕ) → write-groups-lts.Need-returns-3 (
   write-groups-below t,
   write-groups.Post,

@@ -2,7 +2,7 @@
 use mathlib.Core.Path.{sym, ap, _∙_}
 use native.Mathlib.Omega.{arith}
 use Rattle.network_file.specs.Number.{continued, valueIn, sizeIn}
-use Rattle.network_file.specs.NumberLaws.{continued-value}
+use Rattle.network_file.specs.laws.NumberLaws.{continued-value, continued-zero}
 use borrow.Author.Needs.{needs}
 use Rattle.network_file.proofs.numbers.continued_by.Statement.{statement}
 use Rattle.network_file.proofs.numbers.continued_by.Tie as tie
@@ -14,7 +14,11 @@ enum-known-rest-2 : tie.Need-enum-known-rest-2
 enum-known-rest-2 c = search needs
 
 returns : tie.Need-returns
-returns c = search needs
+returns c =
+    let x = c .before .before .before .before .args .x in
+    let v = c .before .before .rest2 .given .0 .0 in
+    let size = c .before .before .rest2 .given .0 .1 .0 in
+    sym (ap (continued x) (c .before .before .rest2 .given .1) ∙ continued-zero x v size (c .if1 .taken))
 
 sub-t9 : tie.Need-sub-t9
 sub-t9 c = search needs

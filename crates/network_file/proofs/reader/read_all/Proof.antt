@@ -1,7 +1,10 @@
--- `read_all` meets its contract: each return is one way through `readAll`, by what was taken and read.
-use mathlib.Core.Path.{_∙_}
+-- `read_all` meets its contract: n and m are taken, the links read, and nothing follows.
+use mathlib.Core.Path.{sym, _∙_}
 use native.Mathlib.Omega.{arith}
-use Rattle.network_file.specs.ReadingSteps.{behind, n-unread, n-zero, n-high, m-unread, m-high, links-refused, bytes-follow, all-done}
+use Rattle.base.specs.laws.ChecksLaws.{refused-by}
+use Rattle.network_file.specs.Reading.{readAll}
+use Rattle.network_file.specs.code.Rows.{rowOf}
+use Rattle.network_file.specs.laws.ReadingSteps.{behind, Headed, head-taken, links-refused, bytes-follow, all-done}
 use borrow.Author.Needs.{needs}
 use Rattle.network_file.proofs.reader.read_all.Statement.{statement}
 use Rattle.network_file.proofs.reader.read_all.Tie as tie
@@ -9,70 +12,23 @@ use Rattle.network_file.proofs.reader.read_all.Tie as tie
 take-requires : tie.Need-take-requires
 take-requires c κs = search needs
 
+cast-t8 : tie.Need-cast-t8
+cast-t8 c = search needs
+
+take-next-requires : tie.Need-take-next-requires
+take-next-requires c κs = behind _ 0 _ (omega arith) _ (c .take .ensures)
+
+-- what n and m say
+abbrev heading : (c : tie.After-take-next) → let st = c .before .before .before in
+    Headed (rowOf (st .args .third)) (st .args .file .now) (readAll (rowOf (st .args .third)) (st .args .file .now))
+    (c .before .take .result) (c .take-next .result)
+heading c = head-taken _ _ _ _ (c .before .take .ensures) (c .take-next .ensures)
+
 stopped-at-requires : tie.Need-stopped-at-requires
 stopped-at-requires c κs = search needs
 
 returns : tie.Need-returns
-returns c =
-    let t1 = c .before .before .before in
-    c .stopped-at .ensures ∙ n-unread _ _ (t1 .take .ensures) (c .before .if1 .taken)
-
-stopped-at-requires-2 : tie.Need-stopped-at-requires-2
-stopped-at-requires-2 c κs = search needs
-
-returns-2 : tie.Need-returns-2
-returns-2 c =
-    let e1 = c .before .before .before in
-    let t1 = e1 .before .before in
-    c .stopped-at2 .ensures ∙ n-zero _ _ (t1 .take .ensures) (e1 .if1 .left) (c .before .if2 .taken)
-
-cast-if3 : tie.Need-cast-if3
-cast-if3 c = search needs
-
-stopped-at-requires-3 : tie.Need-stopped-at-requires-3
-stopped-at-requires-3 c κs = search needs
-
-returns-3 : tie.Need-returns-3
-returns-3 c =
-    let e2 = c .before .before .before in
-    let e1 = e2 .before .before in
-    let t1 = e1 .before .before in
-    c .stopped-at3 .ensures ∙ n-high _ _ (t1 .take .ensures) (e1 .if1 .left) (e2 .if2 .left) (c .before .if3 .taken)
-
-take-requires-2 : tie.Need-take-requires-2
-take-requires-2 c κs =
-    let e2 = c .before .before in
-    let e1 = e2 .before .before in
-    let t1 = e1 .before .before in
-    behind _ 0 _ (t1 .take .ensures) (omega arith)
-
-stopped-at-requires-4 : tie.Need-stopped-at-requires-4
-stopped-at-requires-4 c κs = search needs
-
-returns-4 : tie.Need-returns-4
-returns-4 c =
-    let t2 = c .before .before .before in
-    let e3 = t2 .before in
-    let e2 = e3 .before .before in
-    let e1 = e2 .before .before in
-    let t1 = e1 .before .before in
-    c .stopped-at4 .ensures ∙ m-unread _ _ (t1 .take .ensures) (e1 .if1 .left) (e2 .if2 .left) (e3 .if3 .left) _ (t2 .take2 .ensures) (c .before .if4 .taken)
-
-cast-if5 : tie.Need-cast-if5
-cast-if5 c = search needs
-
-stopped-at-requires-5 : tie.Need-stopped-at-requires-5
-stopped-at-requires-5 c κs = search needs
-
-returns-5 : tie.Need-returns-5
-returns-5 c =
-    let e4 = c .before .before .before in
-    let t2 = e4 .before .before in
-    let e3 = t2 .before in
-    let e2 = e3 .before .before in
-    let e1 = e2 .before .before in
-    let t1 = e1 .before .before in
-    c .stopped-at5 .ensures ∙ m-high _ _ (t1 .take .ensures) (e1 .if1 .left) (e2 .if2 .left) (e3 .if3 .left) _ (t2 .take2 .ensures) (e4 .if4 .left) (c .before .if5 .taken)
+returns c = c .stopped-at .ensures ∙ sym (refused-by _ _ _ (c .before .if1 .taken)) ∙ heading (c .before .before .before) .is
 
 cast-read-links : tie.Need-cast-read-links
 cast-read-links c = search needs
@@ -82,78 +38,54 @@ cast-read-links-2 c = search needs
 
 read-links-requires : tie.Need-read-links-requires
 read-links-requires c κs =
-    let e5 = c .before .before in
-    let e4 = e5 .before .before in
-    let t2 = e4 .before .before in
-    let e3 = t2 .before in
-    let e2 = e3 .before .before in
-    let e1 = e2 .before .before in
-    let t1 = e1 .before .before in
-    (behind _ _ _ (t2 .take2 .ensures) (behind _ 0 _ (t1 .take .ensures) (omega arith)), e3 .if3 .left, e5 .if5 .left)
+    let e = c .before .before in
+    let h = heading (e .before .before) in
+    let few = h .few (e .if1 .left) in
+    (h .within, few .0, few .1)
 
-returns-6 : tie.Need-returns-6
-returns-6 c =
-    let ls = c .before .before in
-    let e5 = ls .before .before .before in
-    let e4 = e5 .before .before in
-    let t2 = e4 .before .before in
-    let e3 = t2 .before in
-    let e2 = e3 .before .before in
-    let e1 = e2 .before .before in
-    let t1 = e1 .before .before in
-    links-refused _ _ (t1 .take .ensures) (e1 .if1 .left) (e2 .if2 .left) (e3 .if3 .left) _ (t2 .take2 .ensures) (e4 .if4 .left) (e5 .if5 .left) _ (ls .read-links .ensures) (c .if6 .taken)
+-- m was taken before the links were read
+abbrev links : tie.After-read-links → tie.Else1
+links l = l .before .before .before
 
-stopped-at-requires-6 : tie.Need-stopped-at-requires-6
-stopped-at-requires-6 c κs = search needs
+returns-2 : tie.Need-returns-2
+returns-2 c =
+    let l = c .before .before in
+    let m = links l .before .before in
+    links-refused _ _ _ _ (m .before .take .ensures) (m .take-next .ensures) (links l .if1 .left) _ (l .read-links .ensures) (c .if2 .taken)
 
-returns-7 : tie.Need-returns-7
-returns-7 c =
-    let e6 = c .before .before .before in
-    let ls = e6 .before .before in
-    let e5 = ls .before .before .before in
-    let e4 = e5 .before .before in
-    let t2 = e4 .before .before in
-    let e3 = t2 .before in
-    let e2 = e3 .before .before in
-    let e1 = e2 .before .before in
-    let t1 = e1 .before .before in
-    c .stopped-at6 .ensures ∙ bytes-follow _ _ (t1 .take .ensures) (e1 .if1 .left) (e2 .if2 .left) (e3 .if3 .left) _ (t2 .take2 .ensures) (e4 .if4 .left) (e5 .if5 .left) _ (ls .read-links .ensures) (e6 .if6 .left) (c .before .if7 .taken)
+stopped-at-requires-2 : tie.Need-stopped-at-requires-2
+stopped-at-requires-2 c κs = search needs
 
-returns-8 : tie.Need-returns-8
-returns-8 c =
-    let e6 = c .before .before in
-    let ls = e6 .before .before in
-    let e5 = ls .before .before .before in
-    let e4 = e5 .before .before in
-    let t2 = e4 .before .before in
-    let e3 = t2 .before in
-    let e2 = e3 .before .before in
-    let e1 = e2 .before .before in
-    let t1 = e1 .before .before in
-    all-done _ _ (t1 .take .ensures) (e1 .if1 .left) (e2 .if2 .left) (e3 .if3 .left) _ (t2 .take2 .ensures) (e4 .if4 .left) (e5 .if5 .left) _ (ls .read-links .ensures) (e6 .if6 .left) (c .if7 .left)
+returns-3 : tie.Need-returns-3
+returns-3 c =
+    let d = c .before .before .before in
+    let l = d .before .before in
+    let m = links l .before .before in
+    c .stopped-at2 .ensures
+    ∙ bytes-follow _ _ _ _ (m .before .take .ensures) (m .take-next .ensures) (links l .if1 .left) _ (l .read-links .ensures)
+    (d .if2 .left) (c .before .if3 .taken)
+
+returns-4 : tie.Need-returns-4
+returns-4 c =
+    let d = c .before .before in
+    let l = d .before .before in
+    let m = links l .before .before in
+    all-done _ _ _ _ (m .before .take .ensures) (m .take-next .ensures) (links l .if1 .left) _ (l .read-links .ensures)
+    (d .if2 .left) (c .if3 .left)
 
 pub read-all-spec : {M : Type 1} → statement M
 read-all-spec =
     tie.close
     (tie.spec
     take-requires
+    cast-t8
+    take-next-requires
     stopped-at-requires
     returns
-    stopped-at-requires-2
-    returns-2
-    cast-if3
-    stopped-at-requires-3
-    returns-3
-    take-requires-2
-    stopped-at-requires-4
-    returns-4
-    cast-if5
-    stopped-at-requires-5
-    returns-5
     cast-read-links
     cast-read-links-2
     read-links-requires
-    returns-6
-    stopped-at-requires-6
-    returns-7
-    returns-8)
+    returns-2
+    stopped-at-requires-2
+    returns-3
+    returns-4)

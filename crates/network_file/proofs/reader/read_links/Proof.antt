@@ -1,19 +1,20 @@
 -- `read_links` meets its contract. The loop's invariant: the arrays hold the first k links, and reading goes on at `next`.
 use Prim.Native.Nat.{_-_}
 use mathlib.Core.Path.{_∙_}
-use Rattle.network_file.specs.LinksSteps.{LinksRead, none-read, all-links, one-more, one-refused}
+use Rattle.network_file.specs.code.Rows.{rowOf}
+use Rattle.network_file.specs.laws.LinksSteps.{LinksRead, none-read, all-links, one-more, one-refused}
 use borrow.Author.Needs.{needs}
 use Rattle.network_file.proofs.reader.read_links.Statement.{statement}
 use Rattle.network_file.proofs.reader.read_links.Tie as tie
 
 abbrev Inv-loop : tie.InvT-loop
-Inv-loop file n m place a₀ b₀ capacity₀ next₀ k₀ a b capacity next k = LinksRead file n m place a b capacity next k
+Inv-loop file n m place third a₀ b₀ capacity₀ next₀ k₀ a b capacity next k = LinksRead (rowOf third) file n m place a b capacity next k
 
 abbrev μ-loop : tie.MeasureT-loop
-μ-loop file n m place a₀ b₀ capacity₀ next₀ k₀ a b capacity next k = m - k
+μ-loop file n m place third a₀ b₀ capacity₀ next₀ k₀ a b capacity next k = m - k
 
 loop-holds : tie.Need-loop-holds Inv-loop μ-loop
-loop-holds c = none-read _ _ _ _ (c .before .pre .0)
+loop-holds c = none-read _ _ _ _ _ (c .before .pre .0)
 
 read-link-requires : tie.Need-read-link-requires Inv-loop μ-loop
 read-link-requires c κs = (c .before .loop .inv .within, c .before .before .before .pre .1)

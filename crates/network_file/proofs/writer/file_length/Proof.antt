@@ -1,9 +1,9 @@
 -- `file_length` meets its contract.
 use Prim.Native.Nat.{_<_, _^_}
 use native.Mathlib.Omega.{arith}
-use Rattle.network.specs.NetworkLaws.{nodes-le, links-le}
-use Rattle.network_file.specs.LengthLaws.{file-most}
-use Rattle.network_file.specs.WritingSteps.{file-long}
+use Rattle.network.specs.laws.NetworkLaws.{nodes-le, links-le}
+use Rattle.network_file.specs.laws.LengthLaws.{file-most}
+use Rattle.network_file.specs.laws.WritingSteps.{file-long}
 use borrow.Author.Needs.{needs}
 use Rattle.network_file.proofs.writer.file_length.Statement.{statement}
 use Rattle.network_file.proofs.writer.file_length.Tie as tie

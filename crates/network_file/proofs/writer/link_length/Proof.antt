@@ -1,8 +1,8 @@
 -- `link_length` meets its contract.
 use native.Mathlib.Omega.{arith}
 use Rattle.network_file.specs.Number.{numberBytes}
-use Rattle.network_file.specs.LengthLaws.{number-most}
-use Rattle.network_file.specs.WritingSteps.{three-long}
+use Rattle.network_file.specs.laws.LengthLaws.{number-most}
+use Rattle.base.specs.laws.ListLaws.{three-long}
 use borrow.Author.Needs.{needs}
 use Rattle.network_file.proofs.writer.link_length.Statement.{statement}
 use Rattle.network_file.proofs.writer.link_length.Tie as tie

@@ -3,10 +3,10 @@ use Prim.Native.Nat.{ℕ, _+_, _-_, _≤_}
 use mathlib.Core.Path.{_≡_, ap, _∙_}
 use native.Mathlib.Omega.{arith}
 use lib.ListN.{length}
-use Rattle.network.specs.NetworkLaws.{links-le}
+use Rattle.network.specs.laws.NetworkLaws.{links-le}
 use Rattle.network_file.specs.Writing.{linkBytes}
-use Rattle.network_file.specs.LengthLaws.{links-most}
-use Rattle.network_file.specs.WritingSteps.{links-more}
+use Rattle.network_file.specs.laws.LengthLaws.{links-most}
+use Rattle.network_file.specs.laws.WritingSteps.{links-more}
 use borrow.Author.Needs.{needs}
 use Rattle.network_file.proofs.writer.links_length.Statement.{statement}
 use Rattle.network_file.proofs.writer.links_length.Tie as tie
@@ -31,7 +31,8 @@ mul-link-length : tie.Need-mul-link-length Inv-loop μ-loop
 mul-link-length c = omega (arith, links-le (c .before .before .before .before .args .t1) (c .before .before .before .before .pre))
 
 element-copy-out-link-length-3 : tie.Need-element-copy-out-link-length-3 Inv-loop μ-loop
-element-copy-out-link-length-3 c = omega (arith, links-le (c .before .before .before .before .args .t1) (c .before .before .before .before .pre))
+element-copy-out-link-length-3 c =
+    omega (arith, links-le (c .before .before .before .before .args .t1) (c .before .before .before .before .pre))
 
 link-length-requires : tie.Need-link-length-requires Inv-loop μ-loop
 link-length-requires c κs = search needs
@@ -40,7 +41,12 @@ add-sum : tie.Need-add-sum Inv-loop μ-loop
 add-sum c =
     let at = c .before .before .before .before .before in
     let st = at .before in
-    omega (arith, links-le (st .args .t1) (st .pre), links-more (st .args .t1) (at .loop .k), links-most (st .args .t1) (st .pre) (at .loop .k + 1) (omega arith))
+    omega (
+      arith,
+      links-le (st .args .t1) (st .pre),
+      links-more (st .args .t1) (at .loop .k),
+      links-most (st .args .t1) (st .pre) (at .loop .k + 1) (omega arith),
+    )
 
 add-k : tie.Need-add-k Inv-loop μ-loop
 add-k c = search needs

@@ -2,8 +2,8 @@
 use Prim.Native.Nat.{ℕ, _<_, _^_}
 use mathlib.Core.Path.{ap, _∙_}
 use native.Mathlib.Omega.{arith}
-use Rattle.network.specs.NetworkLaws.{nodes-le, links-le}
-use Rattle.network_file.specs.WritingSteps.{file-long, refuses-short, fills-front}
+use Rattle.network.specs.laws.NetworkLaws.{nodes-le, links-le}
+use Rattle.network_file.specs.laws.WritingSteps.{file-long, refuses-short, fills-front}
 use borrow.Author.Needs.{needs}
 use Rattle.network_file.proofs.writer.write.Statement.{statement}
 use Rattle.network_file.proofs.writer.write.Tie as tie
@@ -40,7 +40,14 @@ write-number-requires-2 c κs =
     let w1 = c .before .before .before .before in
     let e = w1 .before .before .before in
     let st = e .before .before .before in
-    omega (arith, w1 .write-number .ensures .0, w1 .write-number .kept .0, e .if1 .left, e .before .file-length .ensures, file-long (st .args .net))
+    omega (
+      arith,
+      w1 .write-number .ensures .0,
+      w1 .write-number .kept .0,
+      e .if1 .left,
+      e .before .file-length .ensures,
+      file-long (st .args .net),
+    )
 
 write-links-requires : tie.Need-write-links-requires
 write-links-requires c κs =
@@ -51,7 +58,16 @@ write-links-requires c κs =
     let first = w1 .write-number in
     let second = w2 .write-number2 in (
       st .pre,
-      omega (arith, second .ensures .0, second .kept .0, first .ensures .0, first .kept .0, e .if1 .left, e .before .file-length .ensures, file-long (st .args .net)),
+      omega (
+        arith,
+        second .ensures .0,
+        second .kept .0,
+        first .ensures .0,
+        first .kept .0,
+        e .if1 .left,
+        e .before .file-length .ensures,
+        file-long (st .args .net),
+      ),
     )
 
 same-length : tie.Need-same-length
@@ -67,7 +83,8 @@ returns-2 c =
     let len = e .before .file-length .ensures in
     let e1 = w1 .write-number .ensures in
     let e2 = w2 .write-number2 .ensures in
-    let h = fills-front (st .args .net) _ _ (st .args .out .now) _ _ _ (omega (arith, e .if1 .left, len)) (e1 .0) (e2 .0) (e1 .1) (e2 .1) (wl .write-links .ensures) in
+    let h = fills-front (st .args .net) _ _ (st .args .out .now) _ _ _ (omega (arith, e .if1 .left, len)) (e1 .0) (e2 .0) (e1 .1) (e2 .1)
+    (wl .write-links .ensures) in
     (ap (λ (n : ℕ). record { number = 0; length = n }) len ∙ h .0, h .1)
 
 pub write-spec : {M : Type 1} → statement M

@@ -5,7 +5,7 @@ use native.Mathlib.Omega.{arith}
 use lib.ListN.{length}
 use Rattle.network_file.specs.Number.{numberBytes}
 use Rattle.network_file.specs.Writing.{bytesOfLink}
-use Rattle.network_file.specs.WritingSteps.{three-long, three-runs}
+use Rattle.base.specs.laws.ListLaws.{three-long, three-runs}
 use borrow.Author.Needs.{needs}
 use Rattle.network_file.proofs.writer.write_link.Statement.{statement}
 use Rattle.network_file.proofs.writer.write_link.Tie as tie
@@ -32,7 +32,14 @@ write-number-requires-3 c κs =
     let w2 = c .before .before .before in
     let w1 = w2 .before .before .before .before in
     let st = w1 .before .before .before in
-    omega (arith, w2 .write-number2 .ensures .0, w2 .write-number2 .kept .0, w1 .write-number .ensures .0, w1 .write-number .kept .0, long st)
+    omega (
+      arith,
+      w2 .write-number2 .ensures .0,
+      w2 .write-number2 .kept .0,
+      w1 .write-number .ensures .0,
+      w1 .write-number .kept .0,
+      long st,
+    )
 
 same-length : tie.Need-same-length
 same-length c = search needs
@@ -47,7 +54,8 @@ returns c =
     let e2 = w2 .write-number2 .ensures in
     let e3 = w3 .write-number3 .ensures in (
       omega (arith, e1 .0, e2 .0, e3 .0, long st),
-      three-runs (numberBytes (st .args .a)) (numberBytes (st .args .b)) (numberBytes (st .args .capacity)) _ _ _ (e1 .0) (e2 .0) _ _ _ _ (e1 .1) (e2 .1) (e3 .1),
+      three-runs (numberBytes (st .args .a)) (numberBytes (st .args .b)) (numberBytes (st .args .capacity)) _ _ _ (e1 .0) (e2 .0) _ _ _ _
+          (e1 .1) (e2 .1) (e3 .1),
     )
 
 pub write-link-spec : {M : Type 1} → statement M

@@ -1,8 +1,8 @@
 -- `write_links` meets its contract. The loop's invariant: the first k links are written, and the next place is behind them.
 use Prim.Native.Nat.{_-_}
 use native.Mathlib.Omega.{arith}
-use Rattle.network.specs.NetworkLaws.{links-le}
-use Rattle.network_file.specs.WritingSteps.{LinksWritten, none-written, same-room, all-written, has-room, one-written}
+use Rattle.network.specs.laws.NetworkLaws.{links-le}
+use Rattle.network_file.specs.laws.WritingSteps.{LinksWritten, none-written, same-places, all-written, has-places, one-written}
 use borrow.Author.Needs.{needs}
 use Rattle.network_file.proofs.writer.write_links.Statement.{statement}
 use Rattle.network_file.proofs.writer.write_links.Tie as tie
@@ -17,23 +17,33 @@ loop-holds : tie.Need-loop-holds Inv-loop μ-loop
 loop-holds c = none-written _ _ _
 
 element-copy-out-write-link : tie.Need-element-copy-out-write-link Inv-loop μ-loop
-element-copy-out-write-link c = omega (arith, links-le (c .before .before .before .before .args .t1) (c .before .before .before .before .pre .0))
+element-copy-out-write-link c =
+    omega (arith, links-le (c .before .before .before .before .args .t1) (c .before .before .before .before .pre .0))
 
 element-copy-out-write-link-2 : tie.Need-element-copy-out-write-link-2 Inv-loop μ-loop
-element-copy-out-write-link-2 c = omega (arith, links-le (c .before .before .before .before .before .args .t1) (c .before .before .before .before .before .pre .0))
+element-copy-out-write-link-2 c =
+    omega (arith, links-le (c .before .before .before .before .before .args .t1) (c .before .before .before .before .before .pre .0))
 
 mul-write-link : tie.Need-mul-write-link Inv-loop μ-loop
-mul-write-link c = omega (arith, links-le (c .before .before .before .before .before .before .args .t1) (c .before .before .before .before .before .before .pre .0))
+mul-write-link c =
+    omega (
+      arith,
+      links-le (c .before .before .before .before .before .before .args .t1) (c .before .before .before .before .before .before .pre .0),
+    )
 
 element-copy-out-write-link-3 : tie.Need-element-copy-out-write-link-3 Inv-loop μ-loop
-element-copy-out-write-link-3 c = omega (arith, links-le (c .before .before .before .before .before .before .args .t1) (c .before .before .before .before .before .before .pre .0))
+element-copy-out-write-link-3 c =
+    omega (
+      arith,
+      links-le (c .before .before .before .before .before .before .args .t1) (c .before .before .before .before .before .before .pre .0),
+    )
 
 write-link-requires : tie.Need-write-link-requires Inv-loop μ-loop
 write-link-requires c κs =
     let inside = c .before .before .before .before in
     let at = inside .before in
     let st = at .before .before in
-    has-room (at .loop .inv) (inside .loop-test .taken) (st .pre .1)
+    has-places (at .loop .inv) (inside .loop-test .taken) (st .pre .1)
 
 add-k : tie.Need-add-k Inv-loop μ-loop
 add-k c = search needs
@@ -51,7 +61,7 @@ loop-again c =
 same-length : tie.Need-same-length Inv-loop μ-loop
 same-length c =
     let at = c .before in
-    same-room (at .loop .inv)
+    same-places (at .loop .inv)
 
 returns : tie.Need-returns Inv-loop μ-loop
 returns c =

@@ -1,9 +1,9 @@
 -- `plan::answers::pair` meets its contract: an unsound plan is refused; of a sound one the query answers.
 use mathlib.Core.Path.{sym, _∙_}
 use borrow.Author.Needs.{needs}
-use Rattle.network.specs.BasicsLaws.{answered-no, answered-yes}
-use Rattle.plan.specs.SoundFacts.{sound-climbs}
-use Rattle.plan.specs.AnswersLaws.{pair-unsound, pair-query}
+use Rattle.base.specs.laws.TestLaws.{answered-no, answered-yes}
+use Rattle.plan.specs.laws.SoundFacts.{sound-climbs}
+use Rattle.plan.specs.laws.AnswersLaws.{pair-unsound, pair-query}
 use Rattle.plan.proofs.answers.pair.Statement.{statement}
 use Rattle.plan.proofs.answers.pair.Tie as tie
 

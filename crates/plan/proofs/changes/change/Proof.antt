@@ -4,9 +4,9 @@ use Prim.Native.Nat.{_<_}
 use native.Mathlib.Omega.{arith}
 use borrow.Author.Needs.{needs}
 use Rattle.network.specs.Limits.{maxLinks}
-use Rattle.network.specs.NetworkLaws.{links-le}
+use Rattle.network.specs.laws.NetworkLaws.{links-le}
 use Rattle.plan.specs.Calls.{altered}
-use Rattle.plan.specs.ChangesLaws.{change-refused, change-accepted, change-assumes}
+use Rattle.plan.specs.laws.ChangesLaws.{change-refused, change-accepted, change-assumes}
 use Rattle.plan.specs.declared.Stack.{Stack}
 use Rattle.plan.proofs.changes.change.Statement.{statement}
 use Rattle.plan.proofs.changes.change.Tie as tie
@@ -42,7 +42,8 @@ returns-2 : tie.Need-returns-2
 returns-2 c =
     let e = c .before .before .before .before in
     let a = e .before .before .args in
-    c .altered .ensures ∙ ap (λ (x : Stack). altered (a .p) (a .k) (a .c) x) (c .before .push .ensures) ∙ sym (change-accepted _ _ _ _ (e .before .change-number .ensures) (e .if1 .left))
+    c .altered .ensures ∙ ap (λ (x : Stack). altered (a .p) (a .k) (a .c) x) (c .before .push .ensures)
+    ∙ sym (change-accepted _ _ _ _ (e .before .change-number .ensures) (e .if1 .left))
 
 pub change-spec : {M : Type 1} → statement M
 change-spec =

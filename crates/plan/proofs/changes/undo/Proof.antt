@@ -3,10 +3,10 @@ use mathlib.Core.Path.{sym, ap, _∙_}
 use Prim.Native.Nat.{_-_, _≤_, _<_}
 use native.Mathlib.Omega.{arith}
 use borrow.Author.Needs.{needs}
-use Rattle.network.specs.Basics.{at}
+use Rattle.base.specs.Basics.{at}
 use Rattle.plan.specs.Plan.{maxDepth}
 use Rattle.plan.specs.Calls.{altered}
-use Rattle.plan.specs.ChangesLaws.{undo-refused, undo-accepted, undo-depth, undo-assumes}
+use Rattle.plan.specs.laws.ChangesLaws.{undo-refused, undo-accepted, undo-depth, undo-assumes}
 use Rattle.plan.specs.declared.Stack.{Stack}
 use Rattle.plan.proofs.changes.undo.Statement.{statement}
 use Rattle.plan.proofs.changes.undo.Tie as tie

@@ -2,9 +2,9 @@
 use mathlib.Core.Path.{sym}
 use borrow.Author.Needs.{needs}
 use borrow.Author.Tests.{eq-eqb, ne-eqb}
-use Rattle.network.specs.Checks.{Given, passed, here, later, only}
+use Rattle.base.specs.Checks.{Given, passed, here, later, only}
 use Rattle.plan.specs.Calls.{undoRows, undoNumber}
-use Rattle.plan.specs.SoundFacts.{sound-row}
+use Rattle.plan.specs.laws.SoundFacts.{sound-row}
 use Rattle.plan.proofs.checks.undo_number.Statement.{statement}
 use Rattle.plan.proofs.checks.undo_number.Tie as tie
 
@@ -21,14 +21,16 @@ returns-2 : tie.Need-returns-2
 unfolding undoNumber
 returns-2 c =
     let s = c .before .before in
-    let g : Given (undoRows (s .before .before .args .p)) 13 = later (sound-row (s .before .is-sound .ensures) (s .if1 .left)) (here (eq-eqb _ _ (c .if2 .taken))) in
+    let g : Given (undoRows (s .before .before .args .p)) 13 =
+    later (sound-row (s .before .is-sound .ensures) (s .if1 .left)) (here (eq-eqb _ _ (c .if2 .taken))) in
     sym (only g)
 
 returns-3 : tie.Need-returns-3
 unfolding undoNumber
 returns-3 c =
     let s = c .before .before in
-    let g : Given (undoRows (s .before .before .args .p)) 0 = later (sound-row (s .before .is-sound .ensures) (s .if1 .left)) (later (ne-eqb _ _ (c .if2 .left)) passed) in
+    let g : Given (undoRows (s .before .before .args .p)) 0 =
+    later (sound-row (s .before .is-sound .ensures) (s .if1 .left)) (later (ne-eqb _ _ (c .if2 .left)) passed) in
     sym (only g)
 
 pub undo-number-spec : {M : Type 1} → statement M

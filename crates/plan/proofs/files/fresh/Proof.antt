@@ -9,8 +9,11 @@ build-requires c κs = search needs
 empty-requires : tie.Need-empty-requires
 empty-requires c κs = search needs
 
+plan-of-requires : tie.Need-plan-of-requires
+plan-of-requires c κs = search needs
+
 returns : tie.Need-returns
-returns c = rw (c .before .before .before .build .ensures, c .empty .ensures)
+returns c = rw (c .plan-of .ensures, c .before .empty .ensures, c .before .before .before .before .build .ensures)
 
 pub fresh-spec : {M : Type 1} → statement M
-fresh-spec = tie.close (tie.spec build-requires empty-requires returns)
+fresh-spec = tie.close (tie.spec build-requires empty-requires plan-of-requires returns)

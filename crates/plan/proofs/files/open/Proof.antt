@@ -1,7 +1,7 @@
 -- `plan::files::open` meets its contract: a refused file beside no plan; an accepted one as the plan of its network.
 use mathlib.Core.Path.{sym}
 use borrow.Author.Needs.{needs}
-use Rattle.plan.specs.FilesLaws.{open-refused, open-accepted, open-within}
+use Rattle.plan.specs.laws.FilesLaws.{open-refused, open-accepted, open-within}
 use Rattle.plan.proofs.files.open.Statement.{statement}
 use Rattle.plan.proofs.files.open.Tie as tie
 

@@ -1,9 +1,9 @@
 -- `plan::files::write` meets its contract: an unsound plan is refused; of a sound one the network is written.
 use mathlib.Core.Path.{sym, _∙_}
 use borrow.Author.Needs.{needs}
-use Rattle.network.specs.BasicsLaws.{answered-no, answered-yes}
-use Rattle.plan.specs.SoundFacts.{sound-network}
-use Rattle.plan.specs.FilesLaws.{write-unsound, left-unsound, write-reply, left-written}
+use Rattle.base.specs.laws.TestLaws.{answered-no, answered-yes}
+use Rattle.plan.specs.laws.SoundFacts.{sound-network}
+use Rattle.plan.specs.laws.FilesLaws.{write-unsound, left-unsound, write-reply, left-written}
 use Rattle.plan.proofs.files.write.Statement.{statement}
 use Rattle.plan.proofs.files.write.Tie as tie
 

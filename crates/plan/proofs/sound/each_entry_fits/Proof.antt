@@ -4,8 +4,8 @@ use mathlib.Core.Bool.{true}
 use Prim.Native.Nat.{ℕ, _≤_, _-_}
 use native.Mathlib.Omega.{arith}
 use borrow.Author.Needs.{needs}
-use Rattle.network.specs.Basics.{all}
-use Rattle.network.specs.BasicsLaws.{all-none, all-more, all-fails, answered-no, answered-yes}
+use Rattle.base.specs.Basics.{all}
+use Rattle.base.specs.laws.TestLaws.{all-none, all-more, all-fails, answered-no, answered-yes}
 use Rattle.plan.specs.Plan.{entryFits}
 use Rattle.plan.proofs.sound.each_entry_fits.Statement.{statement}
 use Rattle.plan.proofs.sound.each_entry_fits.Tie as tie

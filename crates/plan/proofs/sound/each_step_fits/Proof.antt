@@ -4,10 +4,10 @@ use mathlib.Core.Bool.{true}
 use Prim.Native.Nat.{ℕ, _≤_, _<_, _-_}
 use native.Mathlib.Omega.{arith}
 use borrow.Author.Needs.{needs}
-use Rattle.network.specs.Basics.{all}
-use Rattle.network.specs.BasicsLaws.{answered-no, answered-yes}
+use Rattle.base.specs.Basics.{all}
+use Rattle.base.specs.laws.TestLaws.{answered-no, answered-yes}
 use Rattle.plan.specs.Plan.{stepFits}
-use Rattle.plan.specs.SoundLaws.{root-step, root-step-fails, step-more, step-fails}
+use Rattle.plan.specs.laws.SoundLaws.{root-step, root-step-fails, step-more, step-fails}
 use Rattle.plan.proofs.sound.each_step_fits.Statement.{statement}
 use Rattle.plan.proofs.sound.each_step_fits.Tie as tie
 
@@ -56,7 +56,8 @@ step-within-requires c κs = omega arith
 returns-2 : tie.Need-returns-2 Inv-loop μ-loop
 returns-2 c =
     let turn = c .before .before .before .before .before in
-    sym (step-fails _ _ _ (turn .before .loop .inv .0) (answered-no (c .before .step-within .ensures) (c .if2 .taken)) (turn .loop-test .taken))
+    sym (step-fails _ _ _ (turn .before .loop .inv .0) (answered-no (c .before .step-within .ensures) (c .if2 .taken))
+    (turn .loop-test .taken))
 
 add-s : tie.Need-add-s Inv-loop μ-loop
 add-s c = omega arith

@@ -1,7 +1,7 @@
 -- `plan::sound::entry_within` meets its contract: one test of the definition at each return.
 use mathlib.Core.Path.{refl}
 use borrow.Author.Tests.{lt-ltb, le-ltb}
-use Rattle.network.specs.BasicsLaws.{fail, pass, last, settled}
+use Rattle.base.specs.laws.TestLaws.{fail, pass, last, settled}
 use Rattle.plan.proofs.sound.entry_within.Statement.{statement}
 use Rattle.plan.proofs.sound.entry_within.Tie as tie
 

@@ -1,7 +1,8 @@
--- `plan::sound::is_sound` meets its contract: one test of the definition at each return. A network that fits has few enough nodes for the others.
+-- `plan::sound::is_sound` meets its contract: one test of the definition at each return. A network that fits has few enough nodes for the
+-- others.
 use borrow.Author.Needs.{needs}
-use Rattle.network.specs.BasicsLaws.{fail, pass, last, settled, answered-no, answered-yes}
-use Rattle.network.specs.NetworkLaws.{nodes-pos, nodes-le}
+use Rattle.base.specs.laws.TestLaws.{fail, pass, last, settled, answered-no, answered-yes}
+use Rattle.network.specs.laws.NetworkLaws.{nodes-pos, nodes-le}
 use Rattle.plan.specs.Plan.{sound}
 use Rattle.plan.proofs.sound.is_sound.Statement.{statement}
 use Rattle.plan.proofs.sound.is_sound.Tie as tie
@@ -20,7 +21,8 @@ returns-2 : tie.Need-returns-2
 unfolding sound
 returns-2 c =
     let n = c .before .before in
-    settled (pass (answered-yes (n .before .fits2 .ensures) (n .if1 .left)) (fail (answered-no (c .before .tree-fits .ensures) (c .if2 .taken))))
+    settled (pass (answered-yes (n .before .fits2 .ensures) (n .if1 .left))
+    (fail (answered-no (c .before .tree-fits .ensures) (c .if2 .taken))))
 
 steps-fit-requires : tie.Need-steps-fit-requires
 steps-fit-requires c κs =
@@ -33,7 +35,8 @@ unfolding sound
 returns-3 c =
     let t = c .before .before in
     let n = t .before .before in
-    settled (pass (answered-yes (n .before .fits2 .ensures) (n .if1 .left)) (pass (answered-yes (t .before .tree-fits .ensures) (t .if2 .left))
+    settled (pass (answered-yes (n .before .fits2 .ensures) (n .if1 .left))
+    (pass (answered-yes (t .before .tree-fits .ensures) (t .if2 .left))
     (fail (answered-no (c .before .steps-fit .ensures) (c .if3 .taken)))))
 
 stack-fits-requires : tie.Need-stack-fits-requires
@@ -45,7 +48,8 @@ returns-4 c =
     let s = c .before in
     let t = s .before .before in
     let n = t .before .before in
-    settled (pass (answered-yes (n .before .fits2 .ensures) (n .if1 .left)) (pass (answered-yes (t .before .tree-fits .ensures) (t .if2 .left))
+    settled (pass (answered-yes (n .before .fits2 .ensures) (n .if1 .left))
+    (pass (answered-yes (t .before .tree-fits .ensures) (t .if2 .left))
     (pass (answered-yes (s .before .steps-fit .ensures) (s .if3 .left)) (last (c .stack-fits .ensures)))))
 
 pub is-sound-spec : {M : Type 1} → statement M

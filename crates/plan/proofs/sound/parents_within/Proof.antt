@@ -5,8 +5,8 @@ use Prim.Native.Nat.{ℕ, _≤_, _-_}
 use native.Mathlib.Omega.{arith}
 use borrow.Author.Needs.{needs}
 use lib.Dec.{ltb}
-use Rattle.network.specs.Basics.{at, all}
-use Rattle.network.specs.BasicsLaws.{all-none, all-more, all-fails, answered-no, answered-yes}
+use Rattle.base.specs.Basics.{at, all}
+use Rattle.base.specs.laws.TestLaws.{all-none, all-more, all-fails, answered-no, answered-yes}
 use Rattle.plan.proofs.sound.parents_within.Statement.{statement}
 use Rattle.plan.proofs.sound.parents_within.Tie as tie
 

@@ -1,7 +1,7 @@
 -- `plan::sound::root_step_within` meets its contract: one test of the definition at each return.
 use mathlib.Core.Path.{refl}
 use borrow.Author.Tests.{eq-eqb, ne-eqb}
-use Rattle.network.specs.BasicsLaws.{fail, pass, last, settled}
+use Rattle.base.specs.laws.TestLaws.{fail, pass, last, settled}
 use Rattle.plan.proofs.sound.root_step_within.Statement.{statement}
 use Rattle.plan.proofs.sound.root_step_within.Tie as tie
 

@@ -3,9 +3,9 @@ use mathlib.Core.Path.{_≡_, sym, ap, _∙_}
 use mathlib.Core.Bool.{true}
 use Prim.Native.Nat.{ℕ, _≤_, _-_}
 use native.Mathlib.Omega.{arith}
-use Rattle.network.specs.BasicsLaws.{all-none, all-more, all-fails, answered-no, answered-yes}
-use Rattle.plan.specs.SoundParts.{rooted}
-use Rattle.plan.specs.SoundLaws.{parents-inside}
+use Rattle.base.specs.laws.TestLaws.{all-none, all-more, all-fails, answered-no, answered-yes}
+use Rattle.plan.specs.code.SoundParts.{rooted}
+use Rattle.plan.specs.laws.SoundLaws.{parents-inside}
 use Rattle.plan.proofs.sound.rooted.Statement.{statement}
 use Rattle.plan.proofs.sound.rooted.Tie as tie
 
@@ -31,7 +31,8 @@ loop-less : tie.Need-loop-less Inv-loop μ-loop
 loop-less c = omega arith
 
 loop-again : tie.Need-loop-again Inv-loop μ-loop
-loop-again c = (omega arith, all-more _ _ (c .before .before .before .loop .inv .1) (answered-yes (c .before .reaches-root .ensures) (c .if1 .left)))
+loop-again c =
+    (omega arith, all-more _ _ (c .before .before .before .loop .inv .1) (answered-yes (c .before .reaches-root .ensures) (c .if1 .left)))
 
 returns-2 : tie.Need-returns-2 Inv-loop μ-loop
 returns-2 c = sym (c .before .loop .inv .1) ∙ ap (λ (i : ℕ). rooted i (c .before .before .args .parent .now)) (omega arith)

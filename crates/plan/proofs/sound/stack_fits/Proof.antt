@@ -1,7 +1,7 @@
 -- `plan::sound::stack_fits` meets its contract: one test of the definition at each return.
 use borrow.Author.Needs.{needs}
 use borrow.Author.Tests.{le-leb, lt-leb}
-use Rattle.network.specs.BasicsLaws.{fail, pass, last, settled, answered-no, answered-yes}
+use Rattle.base.specs.laws.TestLaws.{fail, pass, last, settled, answered-no, answered-yes}
 use Rattle.plan.specs.Plan.{stackFits}
 use Rattle.plan.proofs.sound.stack_fits.Statement.{statement}
 use Rattle.plan.proofs.sound.stack_fits.Tie as tie
@@ -15,7 +15,8 @@ each-entry-fits-requires c κs = search needs
 
 returns-2 : tie.Need-returns-2
 unfolding stackFits
-returns-2 c = settled (pass (le-leb _ _ (c .before .before .if1 .left)) (fail (answered-no (c .before .each-entry-fits .ensures) (c .if2 .taken))))
+returns-2 c =
+    settled (pass (le-leb _ _ (c .before .before .if1 .left)) (fail (answered-no (c .before .each-entry-fits .ensures) (c .if2 .taken))))
 
 blank-from-u16-requires : tie.Need-blank-from-u16-requires
 blank-from-u16-requires c κs = search needs

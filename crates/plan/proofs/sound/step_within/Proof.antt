@@ -3,8 +3,8 @@ use mathlib.Core.Path.{ap}
 use mathlib.Core.Bool.{not}
 use borrow.Author.Needs.{needs}
 use borrow.Author.Tests.{lt-ltb, le-ltb, le-leb, lt-leb}
-use Rattle.network.specs.BasicsLaws.{fail, pass, last, settled, answered-no, answered-yes}
-use Rattle.plan.specs.SoundLaws.{side-within, side-outside}
+use Rattle.base.specs.laws.TestLaws.{fail, pass, last, settled, answered-no, answered-yes}
+use Rattle.plan.specs.laws.SoundLaws.{side-within, side-outside}
 use Rattle.plan.proofs.sound.step_within.Statement.{statement}
 use Rattle.plan.proofs.sound.step_within.Tie as tie
 
@@ -15,12 +15,14 @@ all-below-requires : tie.Need-all-below-requires
 all-below-requires c κs = search needs
 
 returns-2 : tie.Need-returns-2
-returns-2 c = settled (pass (lt-ltb _ _ (c .before .before .if1 .left)) (fail (side-outside _ _ _ (c .before .all-below .ensures) (c .if2 .taken))))
+returns-2 c =
+    settled (pass (lt-ltb _ _ (c .before .before .if1 .left)) (fail (side-outside _ _ _ (c .before .all-below .ensures) (c .if2 .taken))))
 
 returns-3 : tie.Need-returns-3
 returns-3 c =
     let b = c .before in
-    settled (pass (lt-ltb _ _ (b .before .before .if1 .left)) (pass (side-within _ _ _ (b .before .all-below .ensures) (b .if2 .left)) (fail (lt-leb _ _ (c .if3 .taken)))))
+    settled (pass (lt-ltb _ _ (b .before .before .if1 .left))
+    (pass (side-within _ _ _ (b .before .all-below .ensures) (b .if2 .left)) (fail (lt-leb _ _ (c .if3 .taken)))))
 
 contains-requires : tie.Need-contains-requires
 contains-requires c κs = search needs
@@ -41,7 +43,8 @@ returns-5 c =
     let v = s .before .before in
     let b = v .before in
     settled (pass (lt-ltb _ _ (b .before .before .if1 .left)) (pass (side-within _ _ _ (b .before .all-below .ensures) (b .if2 .left))
-    (pass (le-leb _ _ (v .if3 .left)) (pass (answered-yes (s .before .contains .ensures) (s .if4 .left)) (last (ap not (c .contains2 .ensures)))))))
+    (pass (le-leb _ _ (v .if3 .left))
+    (pass (answered-yes (s .before .contains .ensures) (s .if4 .left)) (last (ap not (c .contains2 .ensures)))))))
 
 pub step-within-spec : {M : Type 1} → statement M
 step-within-spec =

@@ -1,6 +1,6 @@
 -- `plan::sound::steps_fit` meets its contract: one test of the definition at each return.
 use borrow.Author.Needs.{needs}
-use Rattle.network.specs.BasicsLaws.{fail, pass, last, settled, answered-no, answered-yes}
+use Rattle.base.specs.laws.TestLaws.{fail, pass, last, settled, answered-no, answered-yes}
 use Rattle.plan.specs.Plan.{stepsFit}
 use Rattle.plan.proofs.sound.steps_fit.Statement.{statement}
 use Rattle.plan.proofs.sound.steps_fit.Tie as tie
@@ -19,7 +19,8 @@ returns-2 : tie.Need-returns-2
 unfolding stepsFit
 returns-2 c =
     let e = c .before .before .before .before .before in
-    settled (pass (answered-yes (e .before .each-step-fits .ensures) (e .if1 .left)) (fail (answered-no (c .before .blank-from-u8 .ensures) (c .if2 .taken))))
+    settled (pass (answered-yes (e .before .each-step-fits .ensures) (e .if1 .left))
+    (fail (answered-no (c .before .blank-from-u8 .ensures) (c .if2 .taken))))
 
 blank-from-u64-requires : tie.Need-blank-from-u64-requires
 blank-from-u64-requires c κs = search needs
@@ -29,7 +30,8 @@ unfolding stepsFit
 returns-3 c =
     let p = c .before .before .before .before .before in
     let e = p .before .before .before .before .before in
-    settled (pass (answered-yes (e .before .each-step-fits .ensures) (e .if1 .left)) (pass (answered-yes (p .before .blank-from-u8 .ensures) (p .if2 .left))
+    settled (pass (answered-yes (e .before .each-step-fits .ensures) (e .if1 .left))
+    (pass (answered-yes (p .before .blank-from-u8 .ensures) (p .if2 .left))
     (fail (answered-no (c .before .blank-from-u64 .ensures) (c .if3 .taken)))))
 
 blank-from-u32-requires : tie.Need-blank-from-u32-requires
@@ -41,7 +43,8 @@ returns-4 c =
     let x = c .before .before .before .before in
     let p = x .before .before .before .before .before in
     let e = p .before .before .before .before .before in
-    settled (pass (answered-yes (e .before .each-step-fits .ensures) (e .if1 .left)) (pass (answered-yes (p .before .blank-from-u8 .ensures) (p .if2 .left))
+    settled (pass (answered-yes (e .before .each-step-fits .ensures) (e .if1 .left))
+    (pass (answered-yes (p .before .blank-from-u8 .ensures) (p .if2 .left))
     (pass (answered-yes (x .before .blank-from-u64 .ensures) (x .if3 .left)) (last (c .blank-from-u32 .ensures)))))
 
 pub steps-fit-spec : {M : Type 1} → statement M

@@ -5,17 +5,19 @@ use mathlib.Core.List.{List, _∷_}
 use borrow.Author.Needs.{needs}
 use borrow.Author.Tests.{eq-eqb, ne-eqb}
 use lib.Dec.{eqb}
-use Rattle.network.specs.Basics.{at}
-use Rattle.network.specs.BasicsLaws.{Settled, fail, pass, last, settled, answered-no, answered-yes}
+use Rattle.base.specs.Basics.{at}
+use Rattle.base.specs.laws.TestLaws.{Settled, fail, pass, last, settled, answered-no, answered-yes}
 use Rattle.cut_tree.specs.declared.Tree.{Tree}
 use Rattle.plan.specs.Plan.{treeFits}
-use Rattle.plan.specs.SoundParts.{parentsWithin, weightsWithin, rooted}
+use Rattle.plan.specs.code.SoundParts.{parentsWithin, weightsWithin, rooted}
 use Rattle.plan.proofs.sound.tree_fits.Statement.{statement}
 use Rattle.plan.proofs.sound.tree_fits.Tie as tie
 
 -- node 0 stands
 root : {xs : List Bool} {b : Bool} (c : tie.Else2) → Settled xs b
-    → Settled (eqb (at (c .before .before .before .before .args .t1 .parent) 0) 0 ∷ eqb (at (c .before .before .before .before .args .t1 .weight) 0) 0 ∷ xs) b
+    → Settled
+    (eqb (at (c .before .before .before .before .args .t1 .parent) 0) 0
+    ∷ eqb (at (c .before .before .before .before .args .t1 .weight) 0) 0 ∷ xs) b
 root c s = pass (eq-eqb _ _ (c .before .before .if1 .left)) (pass (eq-eqb _ _ (c .if2 .left)) s)
 
 -- and so do every node's parent, weight and way to node 0
@@ -23,13 +25,17 @@ abbrev entry : tie.Else5 → tie.Start
 entry c = c .before .before .before .before .before .before .before .before .before .before .before .before .before .before .before .before
 
 abbrev tests : ℕ → Tree → List Bool → List Bool
-tests n tree xs = eqb (at (tree .parent) 0) 0 ∷ eqb (at (tree .weight) 0) 0 ∷ parentsWithin n (tree .parent) ∷ weightsWithin n (tree .weight) ∷ rooted n (tree .parent) ∷ xs
+tests n tree xs =
+    eqb (at (tree .parent) 0) 0 ∷ eqb (at (tree .weight) 0) 0 ∷ parentsWithin n (tree .parent) ∷ weightsWithin n (tree .weight)
+    ∷ rooted n (tree .parent) ∷ xs
 
 nodes : {xs : List Bool} {b : Bool} (c : tie.Else5) → Settled xs b → Settled (tests (entry c .args .n) (entry c .args .t1) xs) b
 nodes c s =
     let w = c .before .before .before .before in
     let p = w .before .before .before .before in
-    root (p .before .before .before .before) (pass (answered-yes (p .before .parents-within .ensures) (p .if3 .left)) (pass (answered-yes (w .before .weights-within .ensures) (w .if4 .left))
+    root (p .before .before .before .before)
+    (pass (answered-yes (p .before .parents-within .ensures) (p .if3 .left))
+    (pass (answered-yes (w .before .weights-within .ensures) (w .if4 .left))
     (pass (answered-yes (c .before .rooted .ensures) (c .if5 .left)) s)))
 
 element-copy-out-if1 : tie.Need-element-copy-out-if1
@@ -60,7 +66,9 @@ returns-4 : tie.Need-returns-4
 unfolding treeFits
 returns-4 c =
     let p = c .before .before .before .before in
-    settled (root (p .before .before .before .before) (pass (answered-yes (p .before .parents-within .ensures) (p .if3 .left)) (fail (answered-no (c .before .weights-within .ensures) (c .if4 .taken)))))
+    settled (root (p .before .before .before .before)
+    (pass (answered-yes (p .before .parents-within .ensures) (p .if3 .left))
+    (fail (answered-no (c .before .weights-within .ensures) (c .if4 .taken)))))
 
 rooted-requires : tie.Need-rooted-requires
 rooted-requires c κs =
@@ -72,7 +80,9 @@ unfolding treeFits
 returns-5 c =
     let w = c .before .before .before .before in
     let p = w .before .before .before .before in
-    settled (root (p .before .before .before .before) (pass (answered-yes (p .before .parents-within .ensures) (p .if3 .left)) (pass (answered-yes (w .before .weights-within .ensures) (w .if4 .left))
+    settled (root (p .before .before .before .before)
+    (pass (answered-yes (p .before .parents-within .ensures) (p .if3 .left))
+    (pass (answered-yes (w .before .weights-within .ensures) (w .if4 .left))
     (fail (answered-no (c .before .rooted .ensures) (c .if5 .taken))))))
 
 blank-from-u8-requires : tie.Need-blank-from-u8-requires
@@ -80,7 +90,8 @@ blank-from-u8-requires c κs = search needs
 
 returns-6 : tie.Need-returns-6
 unfolding treeFits
-returns-6 c = settled (nodes (c .before .before .before .before .before) (fail (answered-no (c .before .blank-from-u8 .ensures) (c .if6 .taken))))
+returns-6 c =
+    settled (nodes (c .before .before .before .before .before) (fail (answered-no (c .before .blank-from-u8 .ensures) (c .if6 .taken))))
 
 blank-from-u32-requires : tie.Need-blank-from-u32-requires
 blank-from-u32-requires c κs = search needs
@@ -89,7 +100,8 @@ returns-7 : tie.Need-returns-7
 unfolding treeFits
 returns-7 c =
     let b = c .before .before .before .before in
-    settled (nodes (b .before .before .before .before .before) (pass (answered-yes (b .before .blank-from-u8 .ensures) (b .if6 .left)) (last (c .blank-from-u32 .ensures))))
+    settled (nodes (b .before .before .before .before .before)
+    (pass (answered-yes (b .before .blank-from-u8 .ensures) (b .if6 .left)) (last (c .blank-from-u32 .ensures))))
 
 pub tree-fits-spec : {M : Type 1} → statement M
 tree-fits-spec =

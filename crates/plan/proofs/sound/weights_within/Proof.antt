@@ -4,8 +4,8 @@ use mathlib.Core.Bool.{true}
 use Prim.Native.Nat.{ℕ, _≤_, _-_}
 use native.Mathlib.Omega.{arith}
 use borrow.Author.Tests.{le-leb, lt-leb}
-use Rattle.network.specs.BasicsLaws.{all-none, all-more, all-fails}
-use Rattle.plan.specs.SoundParts.{weightsWithin}
+use Rattle.base.specs.laws.TestLaws.{all-none, all-more, all-fails}
+use Rattle.plan.specs.code.SoundParts.{weightsWithin}
 use Rattle.plan.proofs.sound.weights_within.Statement.{statement}
 use Rattle.plan.proofs.sound.weights_within.Tie as tie
 

@@ -2,6 +2,7 @@
 use Prim.Native.Nat.{_-_}
 use native.Mathlib.Omega.{arith}
 use borrow.Author.Needs.{needs}
+use Rattle.network.specs.Limits.{maxLinks}
 use Rattle.readings.proofs.files.longest_file.Statement.{statement}
 use Rattle.readings.proofs.files.longest_file.Tie as tie
 
@@ -9,7 +10,7 @@ abbrev Inv-loop : tie.InvT-loop
 Inv-loop file₀ k₀ file k = Unit {0}
 
 abbrev μ-loop : tie.MeasureT-loop
-μ-loop file₀ k₀ file k = 256 - k
+μ-loop file₀ k₀ file k = maxLinks - k
 
 array-write-file : tie.Need-array-write-file Inv-loop μ-loop
 array-write-file c = search needs

@@ -1,7 +1,8 @@
 -- `readings::files::many_links` is safe and ends. The measure is the number of links that are left.
-use Prim.Native.Nat.{_-_}
+use Prim.Native.Nat.{_+_, _-_}
 use native.Mathlib.Omega.{arith}
 use borrow.Author.Needs.{needs}
+use Rattle.network.specs.Limits.{maxLinks}
 use Rattle.readings.proofs.files.many_links.Statement.{statement}
 use Rattle.readings.proofs.files.many_links.Tie as tie
 
@@ -9,7 +10,7 @@ abbrev Inv-loop : tie.InvT-loop
 Inv-loop low high file₀ k₀ file k = Unit {0}
 
 abbrev μ-loop : tie.MeasureT-loop
-μ-loop low high file₀ k₀ file k = 257 - k
+μ-loop low high file₀ k₀ file k = maxLinks + 1 - k
 
 array-write-file : tie.Need-array-write-file Inv-loop μ-loop
 array-write-file c = search needs

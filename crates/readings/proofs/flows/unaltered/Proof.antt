@@ -1,7 +1,8 @@
 -- `readings::flows::unaltered` is safe and ends. The measure is the number of places that are left.
-use Prim.Native.Nat.{_-_}
+use Prim.Native.Nat.{_+_, _-_}
 use native.Mathlib.Omega.{arith}
 use borrow.Author.Needs.{needs}
+use Rattle.network.specs.Limits.{maxLinks}
 use Rattle.readings.proofs.flows.unaltered.Statement.{statement}
 use Rattle.readings.proofs.flows.unaltered.Tie as tie
 
@@ -9,7 +10,7 @@ abbrev Inv-loop : tie.InvT-loop
 Inv-loop flow count₀ k₀ count k = Unit {0}
 
 abbrev μ-loop : tie.MeasureT-loop
-μ-loop flow count₀ k₀ count k = 257 - k
+μ-loop flow count₀ k₀ count k = maxLinks + 1 - k
 
 loop-holds : tie.Need-loop-holds Inv-loop μ-loop
 loop-holds c = tt

@@ -1,17 +1,18 @@
 -- `readings::print::size` is safe. Below zero the complement is not negative, and one more than it fits.
-use mathlib.Core.Bool.{true, false}
-use mathlib.Core.Path.{_≡_, sym, _∙_}
+use mathlib.Core.Path.{sym, _∙_}
 use native.Mathlib.Omega.{arith}
 use borrow.Author.Needs.{needs}
-use Rattle.text.specs.Columns.{isNegative}
-use Rattle.text.specs.ColumnsLaws.{below-zero, not-is, plain-cast}
+use Rattle.text.specs.laws.ColumnsLaws.{below-zero, not-is, plain-cast}
 use Rattle.readings.proofs.print.size.Statement.{statement}
 use Rattle.readings.proofs.print.size.Tie as tie
 
 cast-result : tie.Need-cast-result
 cast-result c =
     let f = c .before .fits .z in
-    rw (not-is (c .before .args .z) f (sym (below-zero (c .before .args .z) f) ∙ c .if1 .taken)) (tt, record { fits = omega (arith, f .sfits) })
+    rw (not-is (c .before .args .z) f (sym (below-zero (c .before .args .z) f) ∙ c .if1 .taken)) (
+      tt,
+      record { fits = omega (arith, f .sfits) },
+    )
 
 add-result : tie.Need-add-result
 add-result c =

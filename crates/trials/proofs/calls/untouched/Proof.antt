@@ -1,14 +1,15 @@
 -- `untouched` is safe and ends.
 use borrow.Author.Needs.{needs}
-use Prim.Native.Nat.{_-_, _≤_, _<_}
+use Prim.Native.Nat.{_-_, _≤_}
+use Rattle.network.specs.Limits.{maxLinks}
 use Rattle.trials.proofs.calls.untouched.Statement.{statement}
 use Rattle.trials.proofs.calls.untouched.Tie as tie
 
 abbrev Inv-loop : tie.InvT-loop
-Inv-loop out i₀ i = i ≤ 256
+Inv-loop out i₀ i = i ≤ maxLinks
 
 abbrev μ-loop : tie.MeasureT-loop
-μ-loop out i₀ i = 256 - i
+μ-loop out i₀ i = maxLinks - i
 
 loop-holds : tie.Need-loop-holds Inv-loop μ-loop
 loop-holds c = search needs

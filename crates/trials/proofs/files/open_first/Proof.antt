@@ -4,6 +4,7 @@ use native.Mathlib.Omega.{arith}
 use lib.ListN.{length}
 use lib.Seq.{length-take-le}
 use borrow.Author.Needs.{needs}
+use Rattle.network_file.specs.Writing.{maxFile}
 use Rattle.trials.proofs.files.open_first.Statement.{statement}
 use Rattle.trials.proofs.files.open_first.Tie as tie
 
@@ -21,7 +22,7 @@ array-share-prefix-file c = search needs
 
 slice-aggregate-open-2 : tie.Need-slice-aggregate-open-2
 slice-aggregate-open-2 c =
-    let long : length (c .before .before .args .t1) ≡ 1283 = search needs in sym (length-take-le _ _ (omega arith))
+    let long : length (c .before .before .args .t1) ≡ maxFile = search needs in sym (length-take-le _ _ (omega arith))
 
 open-requires-2 : tie.Need-open-requires-2
 open-requires-2 c κs = search needs

@@ -1,6 +1,6 @@
 -- `put_file` is safe and ends.
 use borrow.Author.Needs.{needs}
-use Prim.Native.Nat.{_-_, _≤_, _<_}
+use Prim.Native.Nat.{_-_, _≤_}
 use Rattle.trials.proofs.files.put_file.Statement.{statement}
 use Rattle.trials.proofs.files.put_file.Tie as tie
 

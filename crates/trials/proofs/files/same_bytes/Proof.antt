@@ -1,14 +1,15 @@
 -- `same_bytes` is safe and ends.
 use borrow.Author.Needs.{needs}
-use Prim.Native.Nat.{_-_, _≤_, _<_}
+use Prim.Native.Nat.{_-_, _≤_}
+use Rattle.network_file.specs.Writing.{maxFile}
 use Rattle.trials.proofs.files.same_bytes.Statement.{statement}
 use Rattle.trials.proofs.files.same_bytes.Tie as tie
 
 abbrev Inv-loop : tie.InvT-loop
-Inv-loop x y i₀ i = i ≤ 1283
+Inv-loop x y i₀ i = i ≤ maxFile
 
 abbrev μ-loop : tie.MeasureT-loop
-μ-loop x y i₀ i = 1283 - i
+μ-loop x y i₀ i = maxFile - i
 
 loop-holds : tie.Need-loop-holds Inv-loop μ-loop
 loop-holds c = search needs

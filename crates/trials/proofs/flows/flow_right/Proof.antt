@@ -1,7 +1,7 @@
 -- The buffer has room for every link.
 use mathlib.Core.Path.{sym}
 use lib.Seq.{length-take-le}
-use Rattle.network.specs.NetworkLaws.{links-le}
+use Rattle.network.specs.laws.NetworkLaws.{links-le}
 use borrow.Author.Needs.{needs}
 use Rattle.trials.proofs.flows.flow_right.Statement.{statement}
 use Rattle.trials.proofs.flows.flow_right.Tie as tie

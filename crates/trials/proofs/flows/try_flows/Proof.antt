@@ -1,6 +1,6 @@
 -- `try_flows` is safe and ends.
 use borrow.Author.Needs.{needs}
-use Prim.Native.Nat.{_-_, _≤_, _<_}
+use Prim.Native.Nat.{_-_, _≤_}
 use Rattle.trials.proofs.flows.try_flows.Statement.{statement}
 use Rattle.trials.proofs.flows.try_flows.Tie as tie
 

@@ -1,14 +1,15 @@
 -- `same_text` is safe and ends.
 use borrow.Author.Needs.{needs}
-use Prim.Native.Nat.{_-_, _≤_, _<_}
+use Prim.Native.Nat.{_-_, _≤_}
+use Rattle.text.specs.Text.{textWidth}
 use Rattle.trials.proofs.headrooms.same_text.Statement.{statement}
 use Rattle.trials.proofs.headrooms.same_text.Tie as tie
 
 abbrev Inv-loop : tie.InvT-loop
-Inv-loop x y i₀ i = i ≤ 12
+Inv-loop x y i₀ i = i ≤ textWidth
 
 abbrev μ-loop : tie.MeasureT-loop
-μ-loop x y i₀ i = 12 - i
+μ-loop x y i₀ i = textWidth - i
 
 loop-holds : tie.Need-loop-holds Inv-loop μ-loop
 loop-holds c = search needs

@@ -1,6 +1,6 @@
 -- `steps_not_kept` is safe and ends.
 use borrow.Author.Needs.{needs}
-use Prim.Native.Nat.{_-_, _≤_, _<_}
+use Prim.Native.Nat.{_-_, _≤_}
 use Rattle.trials.proofs.keeping.steps_not_kept.Statement.{statement}
 use Rattle.trials.proofs.keeping.steps_not_kept.Tie as tie
 

@@ -1,12 +1,13 @@
 -- A number that is not below zero is itself unsigned.
 use mathlib.Core.Path.{sym, _∙_}
-use Rattle.text.specs.ColumnsLaws.{below-zero, plain-cast}
+use Rattle.text.specs.laws.ColumnsLaws.{below-zero, plain-cast}
 use borrow.Author.Needs.{needs}
 use Rattle.trials.proofs.lawful.forward.Statement.{statement}
 use Rattle.trials.proofs.lawful.forward.Tie as tie
 
 cast-result : tie.Need-cast-result
-cast-result c = plain-cast (c .before .args .f) (c .before .fits .f) (sym (below-zero (c .before .args .f) (c .before .fits .f)) ∙ c .if1 .left)
+cast-result c =
+    plain-cast (c .before .args .f) (c .before .fits .f) (sym (below-zero (c .before .args .f) (c .before .fits .f)) ∙ c .if1 .left)
 
 returns : tie.Need-returns
 returns c = search needs

@@ -1,14 +1,15 @@
 -- `lawful` is safe and ends.
 use borrow.Author.Needs.{needs}
-use Prim.Native.Nat.{_-_, _≤_, _<_}
+use Prim.Native.Nat.{_-_, _≤_}
+use Rattle.network.specs.Limits.{maxNodes}
 use Rattle.trials.proofs.lawful.lawful.Statement.{statement}
 use Rattle.trials.proofs.lawful.lawful.Tie as tie
 
 abbrev Inv-loop : tie.InvT-loop
-Inv-loop s t value b x₀ x = x ≤ 64
+Inv-loop s t value b x₀ x = x ≤ maxNodes
 
 abbrev μ-loop : tie.MeasureT-loop
-μ-loop s t value b x₀ x = 64 - x
+μ-loop s t value b x₀ x = maxNodes - x
 
 loop-holds : tie.Need-loop-holds Inv-loop μ-loop
 loop-holds c = search needs

@@ -1,6 +1,6 @@
 -- `edges_right` is safe and ends.
 use borrow.Author.Needs.{needs}
-use Prim.Native.Nat.{_-_, _≤_, _<_}
+use Prim.Native.Nat.{_-_, _≤_}
 use Rattle.trials.proofs.pairs.edges_right.Statement.{statement}
 use Rattle.trials.proofs.pairs.edges_right.Tie as tie
 

@@ -1,14 +1,15 @@
 -- `way_up` is safe and ends.
 use borrow.Author.Needs.{needs}
-use Prim.Native.Nat.{_-_, _≤_, _<_}
+use Prim.Native.Nat.{_-_, _≤_}
+use Rattle.network.specs.Limits.{maxNodes}
 use Rattle.trials.proofs.pairs.way_up.Statement.{statement}
 use Rattle.trials.proofs.pairs.way_up.Tie as tie
 
 abbrev Inv-loop : tie.InvT-loop
-Inv-loop parent i up₀ at₀ step₀ up at step = step ≤ 64
+Inv-loop parent i up₀ at₀ step₀ up at step = step ≤ maxNodes
 
 abbrev μ-loop : tie.MeasureT-loop
-μ-loop parent i up₀ at₀ step₀ up at step = 64 - step
+μ-loop parent i up₀ at₀ step₀ up at step = maxNodes - step
 
 loop-holds : tie.Need-loop-holds Inv-loop μ-loop
 loop-holds c = search needs

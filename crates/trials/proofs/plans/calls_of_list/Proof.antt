@@ -1,6 +1,6 @@
 -- `calls_of_list` is safe and ends.
 use borrow.Author.Needs.{needs}
-use Prim.Native.Nat.{_-_, _≤_, _<_}
+use Prim.Native.Nat.{_-_, _≤_}
 use Rattle.trials.proofs.plans.calls_of_list.Statement.{statement}
 use Rattle.trials.proofs.plans.calls_of_list.Tie as tie
 

@@ -1,6 +1,6 @@
 -- `try_lists` is safe and ends.
 use borrow.Author.Needs.{needs}
-use Prim.Native.Nat.{_-_, _≤_, _<_}
+use Prim.Native.Nat.{_-_, _≤_}
 use Rattle.trials.proofs.plans.try_lists.Statement.{statement}
 use Rattle.trials.proofs.plans.try_lists.Tie as tie
 

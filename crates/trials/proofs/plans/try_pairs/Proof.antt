@@ -1,6 +1,6 @@
 -- `try_pairs` is safe and ends.
 use borrow.Author.Needs.{needs}
-use Prim.Native.Nat.{_-_, _≤_, _<_}
+use Prim.Native.Nat.{_-_, _≤_}
 use Rattle.trials.proofs.plans.try_pairs.Statement.{statement}
 use Rattle.trials.proofs.plans.try_pairs.Tie as tie
 

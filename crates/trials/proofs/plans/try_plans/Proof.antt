@@ -1,6 +1,6 @@
 -- `try_plans` is safe and ends.
 use borrow.Author.Needs.{needs}
-use Prim.Native.Nat.{_-_, _≤_, _<_}
+use Prim.Native.Nat.{_-_, _≤_}
 use Rattle.trials.proofs.plans.try_plans.Statement.{statement}
 use Rattle.trials.proofs.plans.try_plans.Tie as tie
 

@@ -1,6 +1,6 @@
 -- `with_links` is safe and ends.
 use borrow.Author.Needs.{needs}
-use Prim.Native.Nat.{_-_, _≤_, _<_}
+use Prim.Native.Nat.{_-_, _≤_}
 use Rattle.trials.proofs.random.with_links.Statement.{statement}
 use Rattle.trials.proofs.random.with_links.Tie as tie
 

@@ -1,14 +1,15 @@
 -- `same_entries` is safe and ends.
 use borrow.Author.Needs.{needs}
-use Prim.Native.Nat.{_-_, _≤_, _<_}
+use Prim.Native.Nat.{_-_, _≤_}
+use Rattle.plan.specs.Plan.{maxDepth}
 use Rattle.trials.proofs.same.same_entries.Statement.{statement}
 use Rattle.trials.proofs.same.same_entries.Tie as tie
 
 abbrev Inv-loop : tie.InvT-loop
-Inv-loop x y i₀ i = i ≤ 64
+Inv-loop x y i₀ i = i ≤ maxDepth
 
 abbrev μ-loop : tie.MeasureT-loop
-μ-loop x y i₀ i = 64 - i
+μ-loop x y i₀ i = maxDepth - i
 
 loop-holds : tie.Need-loop-holds Inv-loop μ-loop
 loop-holds c = search needs

@@ -1,14 +1,15 @@
 -- `same_links` is safe and ends.
 use borrow.Author.Needs.{needs}
-use Prim.Native.Nat.{_-_, _≤_, _<_}
+use Prim.Native.Nat.{_-_, _≤_}
+use Rattle.network.specs.Limits.{maxLinks}
 use Rattle.trials.proofs.same.same_links.Statement.{statement}
 use Rattle.trials.proofs.same.same_links.Tie as tie
 
 abbrev Inv-loop : tie.InvT-loop
-Inv-loop x y i₀ i = i ≤ 256
+Inv-loop x y i₀ i = i ≤ maxLinks
 
 abbrev μ-loop : tie.MeasureT-loop
-μ-loop x y i₀ i = 256 - i
+μ-loop x y i₀ i = maxLinks - i
 
 loop-holds : tie.Need-loop-holds Inv-loop μ-loop
 loop-holds c = search needs

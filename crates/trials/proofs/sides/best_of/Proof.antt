@@ -1,6 +1,6 @@
 -- `best_of` is safe and ends.
 use borrow.Author.Needs.{needs}
-use Prim.Native.Nat.{_-_, _≤_, _<_}
+use Prim.Native.Nat.{_-_, _≤_}
 use Rattle.trials.proofs.sides.best_of.Statement.{statement}
 use Rattle.trials.proofs.sides.best_of.Tie as tie
 

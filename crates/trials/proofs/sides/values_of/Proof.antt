@@ -1,6 +1,6 @@
 -- `values_of` is safe and ends.
 use borrow.Author.Needs.{needs}
-use Prim.Native.Nat.{_-_, _≤_, _<_}
+use Prim.Native.Nat.{_-_, _≤_}
 use lib.ListN.{length}
 use mathlib.Core.Path.{_≡_}
 use Rattle.trials.proofs.sides.values_of.Statement.{statement}

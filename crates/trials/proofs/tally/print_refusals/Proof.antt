@@ -1,6 +1,6 @@
 -- `print_refusals` is safe and ends.
 use borrow.Author.Needs.{needs}
-use Prim.Native.Nat.{_-_, _≤_, _<_}
+use Prim.Native.Nat.{_-_, _≤_}
 use Rattle.trials.proofs.tally.print_refusals.Statement.{statement}
 use Rattle.trials.proofs.tally.print_refusals.Tie as tie
 

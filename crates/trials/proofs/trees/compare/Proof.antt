@@ -2,11 +2,11 @@
 use mathlib.Core.Path.{_≡_}
 use mathlib.Core.Bool.{true}
 use Rattle.network.specs.Network.{networkFits}
-use Rattle.network.specs.NetworkLaws.{nodes-le}
+use Rattle.network.specs.laws.NetworkLaws.{nodes-le}
 use Rattle.network.specs.declared.Network.{Network}
 use Rattle.cut_tree.specs.Rule.{rule}
-use Rattle.cut_tree.specs.RuleShape.{rule-shape}
-use Rattle.cut_tree.specs.QueryParts.{Climbs}
+use Rattle.cut_tree.specs.laws.RuleShape.{rule-shape}
+use Rattle.cut_tree.specs.code.QueryParts.{Climbs}
 use Rattle.cut_tree.specs.declared.Built.{Built}
 use borrow.Author.Needs.{needs}
 use Rattle.trials.proofs.trees.compare.Statement.{statement}
@@ -36,7 +36,9 @@ values-of-requires c κs = search needs
 try-pairs-requires : tie.Need-try-pairs-requires
 try-pairs-requires c κs =
     let build = c .before .before .before .before .before in
-    let start = build .before .before .before .before in climbs (start .args .changed) (start .pre .1) (build .build .result) (build .build .ensures)
+    let start =
+    build .before .before .before .before in climbs (start .args .changed) (start .pre .1) (build .build .result)
+    (build .build .ensures)
 
 returns : tie.Need-returns
 returns c = search needs

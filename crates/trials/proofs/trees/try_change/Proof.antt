@@ -26,7 +26,14 @@ fits-requires-2 : tie.Need-fits-requires-2
 fits-requires-2 c κs = search needs
 
 compare-requires : tie.Need-compare-requires
-compare-requires c κs = (record { fits = sym (c .before .before .before .fits2 .ensures) ∙ c .before .before .if3 .taken; link = search needs; capacity = search needs }, sym (c .before .fits3 .ensures) ∙ c .if4 .taken)
+compare-requires c κs = (
+  record {
+    fits = sym (c .before .before .before .fits2 .ensures) ∙ c .before .before .if3 .taken;
+    link = search needs;
+    capacity = search needs;
+  },
+  sym (c .before .fits3 .ensures) ∙ c .if4 .taken,
+)
 
 returns-3 : tie.Need-returns-3
 returns-3 c = search needs

@@ -1,0 +1,1 @@
+// No code: tests, sums, words of bits and rows of checks, for the definitions of the crates above.

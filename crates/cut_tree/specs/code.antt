@@ -1,0 +1,3 @@
+-- What the contracts and invariants of single functions cite.
+pub mod QueryParts
+pub mod RebuildParts

@@ -1,0 +1,2 @@
+-- Worked examples, by evaluation.
+pub mod Hints

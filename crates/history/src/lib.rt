@@ -1,0 +1,1 @@
+// No code: what is claimed of every list of calls, and its proof.

@@ -1,0 +1,3 @@
+-- Lemmas, for the proofs. Nothing here has to be believed.
+pub mod ResidualLaws
+pub mod SearchLaws

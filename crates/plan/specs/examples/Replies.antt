@@ -1,0 +1,50 @@
+-- Headroom and writing by worked examples on resort A's plan. Opening, change, undo and pair have theirs among the
+-- readings.
+use mathlib.Core.Path.{_≡_, refl}
+use mathlib.Core.List.{[], _∷_, _++_}
+use lib.ListN.{replicate}
+use lib.IntN.{pos, negsuc}
+use Rattle.node_set.specs.Set.{size}
+use Rattle.base.specs.Sum.{sum}
+use Rattle.base.specs.Word.{holds, word}
+use Rattle.base.specs.Basics.{all, every, blank, among}
+use Rattle.network.specs.Network.{networkFits}
+use Rattle.network_file.specs.Number.{groupBytes, numberBytes}
+use Rattle.network_file.specs.Writing.{linkBytes, fileOf}
+use Rattle.cut_tree.specs.Path.{reaches, climb, without, path, lightest, lightestOn, sideOf, answer}
+use Rattle.text.specs.Text.{digits, textOf}
+use Rattle.plan.specs.Plan.{treeFits, stepsFit, stackFits, sound}
+use Rattle.plan.specs.Calls.{headroomNumber, headroomOf, writeNumber, writeOf, writtenTo}
+use Rattle.plan.specs.examples.ResortA.{resortA, planA}
+
+-- the pair (3, 1) has weight 6: 1.1 megabits are half a megabit too much, "-0.5"
+pub short : headroomOf planA 3 1 11
+    ≡ record { number = 0; value = negsuc 4; text = 32 ∷ 32 ∷ 32 ∷ 32 ∷ 32 ∷ 32 ∷ 32 ∷ 32 ∷ 45 ∷ 48 ∷ 46 ∷ 53 ∷ [] }
+unfolding sum holds word all every blank networkFits reaches climb among without path lightest lightestOn sideOf answer
+    size digits textOf treeFits stepsFit stackFits sound headroomNumber headroomOf
+short = refl
+
+-- the highest demand, and one above it
+pub highest : (headroomOf planA 0 1 1000000000
+    ≡ record {
+      number = 0;
+      value = negsuc 999999991;
+      text = 32 ∷ 45 ∷ 57 ∷ 57 ∷ 57 ∷ 57 ∷ 57 ∷ 57 ∷ 57 ∷ 57 ∷ 46 ∷ 50 ∷ [];
+    })
+    × (headroomOf planA 0 1 1000000001 ≡ record { number = 17; value = pos 0; text = replicate 12 32 })
+unfolding sum holds word all every blank networkFits reaches climb among without path lightest lightestOn sideOf answer
+    size digits textOf treeFits stepsFit stackFits sound headroomNumber headroomOf
+highest = (refl, refl)
+
+-- written into a buffer of 20, and into one of 16
+pub written : (writeOf planA 20 ≡ record { number = 0; length = 17 })
+    × (writtenTo planA (replicate 20 7) ≡ resortA ++ 7 ∷ 7 ∷ 7 ∷ [])
+unfolding holds all every blank networkFits groupBytes numberBytes linkBytes fileOf reaches treeFits stepsFit stackFits
+    sound writeNumber writeOf writtenTo
+written = (refl, refl)
+
+pub too-long : (writeOf planA 16 ≡ record { number = 18; length = 0 })
+    × (writtenTo planA (replicate 16 7) ≡ replicate 16 7)
+unfolding holds all every blank networkFits groupBytes numberBytes linkBytes fileOf reaches treeFits stepsFit stackFits
+    sound writeNumber writeOf writtenTo
+too-long = (refl, refl)

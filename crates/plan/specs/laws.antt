@@ -1,0 +1,8 @@
+-- Lemmas, for the proofs. Nothing here has to be believed.
+pub mod ShapeLaws
+pub mod SoundLaws
+pub mod SoundFacts
+pub mod AnswersLaws
+pub mod FlowsLaws
+pub mod ChangesLaws
+pub mod FilesLaws
