@@ -122,9 +122,10 @@ struct pamzolit_plan {
 
 /* ---- replies */
 
-/* The lightest edge of the tree path from s to t, the first of equals met from s: its weight, which is the limit
- * between s and t; the node below the edge; the side that holds s once the edge is cut, which is a minimum cut; and
- * how many nodes that side has. Beside a refusal all but the number is 0. */
+/* The lightest edge of the path between s and t in the cut tree, the one with the lowest node number among equals, so
+ * that both ends show the same: its weight, which is the limit between s and t; the node below the edge; the side that
+ * holds s once the edge is cut, which is a minimum cut; and how many nodes that side has. Asked from the other end,
+ * weight and node are the same, and the side is the complement. Beside a refusal all but the number is 0. */
 struct pamzolit_pair_reply {
     uint32_t number;
     uint32_t weight;
@@ -152,7 +153,8 @@ uint32_t pamzolit_open(const uint8_t *file, size_t file_length, struct pamzolit_
 uint32_t pamzolit_change(struct pamzolit_plan *plan, size_t link, uint32_t capacity, uint32_t *count);
 uint32_t pamzolit_undo(struct pamzolit_plan *plan, uint32_t *count);
 
-/* The limit between s and t and what sets it (19, 14, 15). reply->number is what is returned. */
+/* The limit between s and t and what sets it, the same edge from both ends (19, 14, 15). reply->number is what is
+ * returned. */
 uint32_t pamzolit_pair(const struct pamzolit_plan *plan, size_t s, size_t t, struct pamzolit_pair_reply *reply);
 
 /* What a demand leaves of that limit (19, 14, 15, 17). reply->number is what is returned. */

@@ -30,7 +30,8 @@
 //!   given, with its place ([`FileError`]). A call is refused exactly under its conditions, and then alters nothing
 //!   ([`Refusal`]).
 //! - An opened plan has a cut tree in the sense of Barth et al., Definition 1: the limit that [`Plan::pair`] gives
-//!   is the value of a minimum cut, and [`Plan::flow`] gives a flow with that total.
+//!   is the value of a minimum cut, and [`Plan::flow`] gives a flow with that total. A pair shows the same edge of
+//!   that tree from both ends, and its two sides are each other's complement.
 //! - After any list of changes, undos, pairs and flows, refused ones among them, the plan is as one opened fresh on
 //!   the file that [`Plan::write`] gives, its capacities are the history's, and every pair's limit is exact. A
 //!   `Plan` has no other way to come about, so this holds of every one.

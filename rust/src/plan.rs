@@ -82,7 +82,8 @@ impl Plan {
         ffi::undo(&mut self.held).map_err(Refusal::new)
     }
 
-    /// The limit between two nodes, and what sets it.
+    /// The limit between two nodes, and what sets it. Both ends show the same edge of the cut tree, each with its
+    /// own side.
     ///
     /// Refused with [`NoSuchNode`](Refusal::NoSuchNode), [`SameNode`](Refusal::SameNode).
     ///
@@ -92,6 +93,13 @@ impl Plan {
     /// let plan = Plan::open(&[2, 1, 0, 1, 6])?;
     /// let pair = plan.pair(Node(1), Node(0))?;
     /// assert_eq!((pair.weight, pair.side, pair.size), (6, Side::from_bits(0b10), 1));
+    ///
+    /// // resort A of document 01: between 3 and 1 the edges of 3 and of 2 are the lightest
+    /// let plan = Plan::open(&[4, 5, 0, 1, 5, 1, 2, 3, 2, 3, 4, 0, 3, 2, 0, 2, 1])?;
+    /// let (here, there) = (plan.pair(Node(3), Node(1))?, plan.pair(Node(1), Node(3))?);
+    /// assert_eq!((here.weight, here.node), (6, Node(2)));
+    /// assert_eq!((there.weight, there.node), (6, Node(2)));
+    /// assert_eq!((here.side.to_string(), there.side.to_string()), ("{2, 3}".into(), "{0, 1}".into()));
     /// # Ok::<(), Box<dyn std::error::Error>>(())
     /// ```
     pub fn pair(&self, s: Node, t: Node) -> Result<Pair, Refusal> {

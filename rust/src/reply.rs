@@ -5,7 +5,8 @@ use std::fmt;
 use std::str;
 
 /// The limit between two nodes s and t, and what sets it: the lightest edge of the path between them in the cut
-/// tree, the first of equals met from s.
+/// tree, the one with the lowest node number among equals, so that both ends show the same. Asked from the other
+/// end, weight and node are the same, and the side is the complement.
 ///
 /// ```
 /// use pamzolit::{Node, Plan};

@@ -1,8 +1,11 @@
-//! The model against document 01's readings, and its two ways to a least cut against each other.
+//! The model against the readings, its two ways to a least cut against each other, its pairs against a walk
+//! in the tree, and the stored listings against the model.
 mod model;
 mod random;
 use model::{Plan, Tree};
 use random::Random;
+use std::fs;
+use std::path::Path;
 
 const RESORT_A: [u8; 17] = [4, 5, 0, 1, 5, 1, 2, 3, 2, 3, 4, 0, 3, 2, 0, 2, 1];
 
@@ -12,7 +15,8 @@ fn resort_a() {
     assert_eq!(plan.tree.parent, [0, 0, 0, 2]);
     assert_eq!(plan.tree.weight, [0, 8, 6, 6]);
     assert_eq!(plan.tree.steps[1..].iter().map(|s| s.1).collect::<Vec<_>>(), [2, 12, 8]);
-    assert_eq!(plan.pair(3, 1), Ok((6, 3, 8, 1)));
+    assert_eq!(plan.pair(3, 1), Ok((6, 2, 12, 2)));
+    assert_eq!(plan.pair(1, 3), Ok((6, 2, 3, 2)));
     assert_eq!(plan.clone().change(1, 1), Ok(1));
     let mut other = plan.clone();
     assert_eq!(other.change(3, 4), Ok(2));
@@ -46,4 +50,58 @@ fn trial_and_preflow_agree() {
             }
         }
     }
+}
+
+/// The edges on the way from s to t, where the end that is deeper in the tree goes up until both meet.
+fn way(tree: &Tree, mut s: usize, mut t: usize) -> Vec<usize> {
+    let depth = |i| std::iter::successors(Some(i), |&i| (i != 0).then(|| tree.parent[i])).count();
+    let mut edges = Vec::new();
+    while s != t {
+        let deeper = if depth(s) > depth(t) { &mut s } else { &mut t };
+        edges.push(*deeper);
+        *deeper = tree.parent[*deeper];
+    }
+    edges
+}
+
+#[test]
+fn pairs_by_a_walk() {
+    let mut random = Random::new(9);
+    for _ in 0..400 {
+        let net = random.network(12, 20);
+        let tree = Tree::of(&net);
+        for s in 0..net.nodes {
+            for t in (0..net.nodes).filter(|&t| t != s) {
+                let mut edges = way(&tree, s, t);
+                edges.sort();
+                assert_eq!(tree.path(s, t).collect::<Vec<_>>(), edges, "{net:?} {s} {t}");
+                let (weight, node, side, size) = tree.pair(s, t);
+                // the first of the lightest in rising order
+                let lightest = edges.iter().map(|&v| tree.weight[v]).min().unwrap();
+                let first = edges.iter().copied().find(|&v| tree.weight[v] == lightest);
+                assert_eq!((weight, Some(node)), (lightest, first), "{net:?} {s} {t}");
+                // a node is on the side of s if the way to it does not go over the edge
+                let reached = (0..net.nodes).filter(|&i| !way(&tree, s, i).contains(&node));
+                assert_eq!(side, reached.fold(0, |w, i| w | 1u64 << i), "{net:?} {s} {t}");
+                assert_eq!(size, side.count_ones());
+            }
+        }
+    }
+}
+
+/// The stored listings of `tests/pairs` are the model's, of the 1,284 bytes that the program `pairs` reads at most.
+#[test]
+fn stored_listings() {
+    let folder = Path::new(env!("CARGO_MANIFEST_DIR")).join("../tests/pairs");
+    let mut listings = 0;
+    for entry in fs::read_dir(folder).unwrap() {
+        let path = entry.unwrap().path();
+        if path.extension().is_some_and(|kind| kind == "in") {
+            let file = fs::read(&path).unwrap();
+            let stored = fs::read_to_string(path.with_extension("out")).unwrap();
+            assert_eq!(stored, model::listing(&file[..file.len().min(1284)]), "{}", path.display());
+            listings += 1;
+        }
+    }
+    assert!(listings > 20);
 }

@@ -29,21 +29,18 @@ static inline bool among(const struct climb *up, size_t node)
     return false;
 }
 
-/* of the edges above the nodes on the way from s to t the lightest, the first of equals from s */
+/* An edge is on the path between s and t if one of the two is below it and the other is not. Of these the lightest, the
+ * one with the lowest node among equals: nodes are tried in rising order, and only a lighter edge replaces one. */
 static inline size_t lightest(const struct pamzolit_tree *tree, size_t s, size_t t)
 {
     struct climb from_s = climb_from(tree, s), from_t = climb_from(tree, t);
-    size_t way[2 * PAMZOLIT_NODES], length = 0, best = 0;
-    for (size_t i = 0; i < from_s.length; i++)
-        if (!among(&from_t, from_s.node[i]))
-            way[length++] = from_s.node[i];
-    for (size_t i = from_t.length; i-- > 0;)
-        if (!among(&from_s, from_t.node[i]))
-            way[length++] = from_t.node[i];
-    for (size_t i = 1; i < length; i++)
-        if (tree->weight[way[i]] < tree->weight[way[best]])
-            best = i;
-    return way[best];
+    size_t best = 0;
+    for (size_t node = 1; node < PAMZOLIT_NODES; node++) {
+        bool on_path = among(&from_s, node) != among(&from_t, node);
+        if (on_path && (best == 0 || tree->weight[node] < tree->weight[best]))
+            best = node;
+    }
+    return best;
 }
 
 /* once the edge above `node` is cut: the nodes that lie as s does */

@@ -4,7 +4,7 @@ use mathlib.Core.Logic.{_≢_}
 use mathlib.Core.Bool.{Bool, true, false, not}
 use Prim.Native.Nat.{ℕ, _≤_, _<_}
 use native.Mathlib.Omega.{arith}
-use Rattle.base.specs.laws.Bools.{bool1}
+use Rattle.base.specs.laws.Bools.{bool1, differ-not}
 use Rattle.min_cut.specs.Cut.{Net, Side, cutValue, complement, Within}
 use Rattle.base.specs.Basics.{differ}
 use Rattle.min_cut.specs.laws.CutLaws.{cutValue-ext, cutValue-complement}
@@ -18,8 +18,9 @@ use Rattle.network.specs.declared.Network.{Network}
 use Rattle.cut_tree.specs.Rule.{rule}
 use Rattle.cut_tree.specs.Path.{lightestOn, under, sideOf, answer, weightOf, sideIn}
 use Rattle.cut_tree.specs.laws.RuleTree.{Placed, rule-tree}
-use Rattle.cut_tree.specs.laws.PairLaws.{differ-separates, lightest-path, lightest-separates, lightest-value}
-use Rattle.cut_tree.specs.laws.PairLaws.{lightest-least}
+use Rattle.cut_tree.specs.laws.PairLaws.{lightest-separates, lightest-value}
+use Rattle.cut_tree.specs.laws.PairLaws.{lightest-least, placed-climbs}
+use Rattle.cut_tree.specs.BothEnds.{lightest-answer}
 use Rattle.cut_tree.specs.declared.Tree.{Tree}
 use Rattle.cut_tree.specs.Answer.{MinimumAnswer, LightestAnswer}
 
@@ -76,13 +77,12 @@ module _ (net : Network) (w : WithinLimits net) (s t : ℕ) (sl : s < net .nodes
               refl,
             ) (X t));
         value = as-s G n in-net X s ∙ lightest-value G n few in-net tree T s t sl tl d;
-        least = λ W e. lightest-least G n few in-net tree T s t sl tl d W (differ-separates (W s) (W t) e);
+        least = λ W e. lightest-least G n few in-net tree T s t sl tl d W (differ-not (W s) (W t) e);
         counted = refl;
       }
 
   pub answer-lightest : LightestAnswer tree s t (answer tree n s t)
-  unfolding answer
-  answer-lightest = record { edge = lightest-path G n few in-net tree T s t sl tl d; weight = refl }
+  answer-lightest = lightest-answer n tree (placed-climbs G n few in-net tree T) s t sl tl d
 
   -- the least minimum cut has the same value
   pub answer-weight : minCutValue net s t ≡ weightOf (answer tree n s t)

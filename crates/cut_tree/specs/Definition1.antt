@@ -10,15 +10,15 @@
 use Prim.Native.Nat.{ℕ, suc, _-_, _≤_, _<_}
 use mathlib.Core.Path.{_≡_}
 use mathlib.Core.Logic.{_≢_}
-use mathlib.Core.Bool.{true}
+use mathlib.Core.Bool.{Bool, true}
 use mathlib.Core.List.{List}
 use lib.IntN.{ℤ}
 use Rattle.min_cut.specs.Cut.{Net, Side, cutValue, MinCut}
 use Rattle.min_cut.specs.Lawful.{MaximumFlow}
-use Rattle.base.specs.Basics.{at, among}
+use Rattle.base.specs.Basics.{at}
 use Rattle.network.specs.Network.{graph, valueOf}
 use Rattle.network.specs.declared.Network.{Network}
-use Rattle.cut_tree.specs.Path.{reaches, path, lightestOn, under}
+use Rattle.cut_tree.specs.Path.{reaches, onPath, lightestOn, under}
 use Rattle.cut_tree.specs.declared.Tree.{Tree}
 
 -- T: the n - 1 tree edges as links, one from each node but 0 to its parent
@@ -31,13 +31,13 @@ pub record FlowValue (G : Net) (n s t v : ℕ) : Type 0 where
   pub cut : (X : Side) × MinCut G s t X × (cutValue G X ≡ v)
 
 -- v is one of the edges, and none has a smaller weight
-pub record Lightest (weight edges : List ℕ) (v : ℕ) : Type 0 where
-  pub on-path : among v edges ≡ true
-  pub least : (u : ℕ) → among u edges ≡ true → at weight v ≤ at weight u
+pub record Lightest (weight : List ℕ) (edges : ℕ → Bool) (v : ℕ) : Type 0 where
+  pub on-path : edges v ≡ true
+  pub least : (u : ℕ) → edges u ≡ true → at weight v ≤ at weight u
 
 -- (a) for s and t
 pub record EquivalentFlow (net : Network) (tree : Tree) (s t : ℕ) : Type 0 where
-  pub smallest : Lightest (tree .weight) (path (tree .parent) s t) (lightestOn tree s t)
+  pub smallest : Lightest (tree .weight) (onPath (tree .parent) s t) (lightestOn tree s t)
   pub in-network : FlowValue (graph net) (net .nodes) s t (at (tree .weight) (lightestOn tree s t))
   pub in-tree : FlowValue (treeNet (net .nodes) tree) (net .nodes) s t (at (tree .weight) (lightestOn tree s t))
 

@@ -9,6 +9,9 @@ pub mod RuleCutTree
 pub mod KeepLemma
 pub mod Rebuilds
 pub mod AnswerMinimum
+-- and a pair's edge is one edge, the same from both ends
+pub mod SameEdge
+pub mod BothEnds
 -- what contracts of the code cite
 pub mod code
 -- worked examples

@@ -1,10 +1,12 @@
--- "A pair call for (s, t) gives the lightest edge on the tree path, the first of equals met from s." An edge is named
--- by the node below it.
-use Prim.Native.Nat.{ℕ, zero, suc, _-_}
+-- "The lightest edge with the lowest house number, the house below the edge, is shown from both ends": the path, its
+-- edge, and what a pair call for (s, t) answers by it. An edge is named by the node below it.
+use Prim.Native.Nat.{ℕ, zero, suc, _-_, _≤_, _<_}
+use mathlib.Core.Path.{_≡_}
 use mathlib.Core.Bool.{Bool, true, not, _&&_}
-use mathlib.Core.List.{List, [], _∷_, _++_, reverse}
+use mathlib.Core.List.{List, [], _∷_}
 use lib.Dec.{ltb, eqb}
 use Rattle.base.specs.Word.{word}
+use Rattle.min_cut.specs.FirstWord.{first}
 use Rattle.node_set.specs.Set.{size}
 use Rattle.network.specs.Refusals.{noSuchNode, sameNode}
 use Rattle.base.specs.Basics.{pick, at, differ, among}
@@ -23,34 +25,33 @@ unfoldable pub reaches : List ℕ → ℕ → ℕ → Bool
 reaches parent zero i = eqb i 0
 reaches parent (suc left) i = let further = reaches parent left (at parent i) in pick (eqb i 0) true further
 
+-- n nodes that are a tree below node 0, as those of a sound plan: each reaches it, and parents are among them
+pub record Climbs (n : ℕ) (parent : List ℕ) : Type 0 where
+  pub small : n ≤ maxNodes
+  pub stays : (i : ℕ) → i < n → at parent i < n
+  pub rooted : (i : ℕ) → i < n → reaches parent maxClimb i ≡ true
+
 -- the nodes from i up to node 0, without it
 unfoldable pub climb : List ℕ → ℕ → ℕ → List ℕ
 climb parent zero i = []
 climb parent (suc left) i = let further = climb parent left (at parent i) in pick (eqb i 0) [] (i ∷ further)
 
--- those of xs that are not among ys
-unfoldable pub without : List ℕ → List ℕ → List ℕ
-without ys [] = []
-without ys (x ∷ xs) = pick (among x ys) (without ys xs) (x ∷ without ys xs)
-
--- the edges of the tree path, as they are met from s: up from s, and then down to t
-unfoldable pub path : List ℕ → ℕ → ℕ → List ℕ
-path parent s t =
-    let up = climb parent maxClimb s in
-    let down = climb parent maxClimb t in
-    without down up ++ reverse (without up down)
-
--- the first of the lightest of v and xs
-unfoldable pub lightest : List ℕ → ℕ → List ℕ → ℕ
-lightest weight v [] = v
-lightest weight v (x ∷ xs) = lightest weight (pick (ltb (at weight x) (at weight v)) x v) xs
-
-unfoldable pub lightestOn : Tree → ℕ → ℕ → ℕ
-lightestOn tree s t = lightest (tree .weight) (at (path (tree .parent) s t) 0) (path (tree .parent) s t)
-
 -- the subtree of v: the nodes that reach node 0 through v
 abbrev pub under : List ℕ → ℕ → ℕ → Bool
 under parent v i = among v (climb parent maxClimb i)
+
+-- the tree path between s and t, as the set of its edges: v's edge is on it where exactly one of s and t reaches node 0
+-- through v. It is a set: it has no order, and is the same from both ends.
+abbrev pub onPath : List ℕ → (s t : ℕ) → ℕ → Bool
+onPath parent s t v = differ (under parent v s) (under parent v t)
+
+-- the lightest of a set of edges, the lowest number among equals; 0, which names no edge, where the set is empty
+unfoldable pub lightestOf : List ℕ → (ℕ → Bool) → ℕ
+lightestOf weight edges = first edges (at weight) maxNodes
+
+-- the edge that a pair call shows
+unfoldable pub lightestOn : Tree → ℕ → ℕ → ℕ
+lightestOn tree s t = lightestOf (tree .weight) (onPath (tree .parent) s t)
 
 -- the side that holds s once the edge of v is cut: the nodes that lie as s does
 unfoldable pub sideOf : List ℕ → ℕ → ℕ → ℕ → ℕ

@@ -11,6 +11,7 @@ pub mod RuleTree
 pub mod Depth
 pub mod RuleShape
 pub mod MemberLaws
+pub mod LightestLaws
 pub mod PathLaws
 pub mod PairLaws
 pub mod TreeValues

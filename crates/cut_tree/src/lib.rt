@@ -41,8 +41,8 @@ pub struct StepCut {
     pub anew: u32,
 }
 
-// What a pair call finds: a refusal number; or the lightest tree edge between two nodes, by its weight and the node
-// below it, the side that holds the first node once that edge is cut, and how many nodes that side has.
+// What a pair call finds: a refusal number; or the lightest tree edge between s and t, the lowest number among equals,
+// by its weight and the node below it, the side that holds s once that edge is cut, and how many nodes that side has.
 pub enum PairAnswer {
     Refused(u32),
     Found {

@@ -7,12 +7,11 @@ use network::NO_SUCH_NODE;
 use network::SAME_NODE;
 ghost use mathlib.Core.Path.{_≡_};
 ghost use Prim.Native.Nat.{_<_};
-ghost use mathlib.Core.List.{reverse};
 ghost use Rattle.base.specs.Word.{word};
 ghost use Rattle.network.specs.Limits.{maxNodes};
-ghost use Rattle.cut_tree.specs.Path.{maxClimb, reaches, climb, under, lightestOn, sideOf, queryOf};
+ghost use Rattle.cut_tree.specs.Path.{maxClimb, reaches, Climbs, climb, under, lightestOn, sideOf, queryOf};
 ghost use Rattle.base.specs.Basics.{among};
-ghost use Rattle.cut_tree.specs.code.QueryParts.{Inside, Climbs, Known, climbTo, addedAll, addedIf, lighter};
+ghost use Rattle.cut_tree.specs.code.QueryParts.{Inside, Known, climbTo, addedAll, addedIf, lighter};
 ghost use Rattle.cut_tree.specs.code.QueryParts.{lightestFrom};
 ghost use Rattle.cut_tree.specs.code.QueryParts.{Pair};
 
@@ -49,7 +48,7 @@ fn ancestors(parent: &[u8; MAX_NODES], left: usize, i: usize, x: u64) -> u64
     ancestors(parent, left - 1, up, node_set::add(x, i))
 }
 
-// The lighter of the edges of best and i; best where they are equal, and i where there is no best yet.
+// The lighter of the edges of best and i, the lower number where they are equal; i where there is no best yet.
 fn lighter(weight: &[u32; MAX_NODES], best: usize, i: usize) -> usize
     requires { ⌜ (best < maxNodes) × (i < maxNodes) ⌝ }
     ensures { λ r. ⌜ r ≡ lighter (now (weight .entry)) best i ⌝ }
@@ -60,10 +59,17 @@ fn lighter(weight: &[u32; MAX_NODES], best: usize, i: usize) -> usize
     if weight[i] < weight[best] {
         return i;
     }
+    if weight[best] < weight[i] {
+        return best;
+    }
+    if i < best {
+        return i;
+    }
     best
 }
 
-// The first of the lightest edges on the way up from i, as far as the set `stop`; best where none is lighter.
+// The lightest of best's edge and those on the way up from i, as far as the set `stop`; the lowest number among
+// equals.
 fn lightest_up(
     parent: &[u8; MAX_NODES],
     weight: &[u32; MAX_NODES],
@@ -88,34 +94,7 @@ fn lightest_up(
     lightest_up(parent, weight, left - 1, up, stop, lighter(weight, best, i))
 }
 
-// The same on the way down to i: the edges above it come first.
-fn lightest_down(
-    parent: &[u8; MAX_NODES],
-    weight: &[u32; MAX_NODES],
-    left: usize,
-    i: usize,
-    stop: u64,
-    best: usize,
-) -> usize
-    requires { ⌜ Inside (now parent) i × (best < maxNodes) ⌝ }
-    ensures { λ r. ⌜ r ≡ lightestFrom (now (weight .entry)) best
-        (reverse (climbTo stop (now (parent .entry)) left i)) ⌝ }
-{
-    if i == 0 {
-        return best;
-    }
-    if left == 0 {
-        return best;
-    }
-    if node_set::contains(stop, i) {
-        return best;
-    }
-    let up = parent[i] as usize;
-    let above = lightest_down(parent, weight, left - 1, up, stop, best);
-    lighter(weight, above, i)
-}
-
-// The node of the lightest edge on the path from s to t, the first of equals met from s.
+// The node of the lightest edge on the path between s and t, the lowest among equals: up from s, then up from t.
 fn lightest_on(parent: &[u8; MAX_NODES], weight: &[u32; MAX_NODES], s: usize, t: usize) -> usize
     requires { ⌜ Pair (now parent) s t ⌝ }
     ensures { λ r. ⌜ r ≡ lightestOn (record { parent = now (parent .entry); weight = now (weight .entry) }) s t ⌝ }
@@ -123,7 +102,7 @@ fn lightest_on(parent: &[u8; MAX_NODES], weight: &[u32; MAX_NODES], s: usize, t:
     let above_s = ancestors(parent, MAX_CLIMB, s, node_set::empty());
     let above_t = ancestors(parent, MAX_CLIMB, t, node_set::empty());
     let best = lightest_up(parent, weight, MAX_CLIMB, s, above_t, 0);
-    lightest_down(parent, weight, MAX_CLIMB, t, above_s, best)
+    lightest_up(parent, weight, MAX_CLIMB, t, above_s, best)
 }
 
 // Whether the climb from j goes through v. Of the nodes below i that is known: those that do are in x.

@@ -7,8 +7,11 @@ use lib.ListN.{length, take}
 use lib.IntN.{pos, _-ℤ_}
 use Rattle.base.specs.Checks.{accepted}
 use Rattle.text.specs.Text.{textOf}
-use Rattle.cut_tree.specs.Path.{answer, weightOf}
-use Rattle.cut_tree.specs.declared.PairAnswer.the-variants.{Refused}
+use Rattle.cut_tree.specs.Path.{answer, numberOf, weightOf}
+use Rattle.cut_tree.specs.Answer.{BothEnds}
+use Rattle.cut_tree.specs.declared.PairAnswer.{PairAnswer}
+use Rattle.cut_tree.specs.declared.PairAnswer.the-variants.{Refused, Found}
+use Rattle.plan.specs.BothEnds.{pair-both-ends}
 use Rattle.plan.specs.laws.AnswersLaws.{headroom-found}
 use Rattle.plan.specs.Calls.{openOf, pairNumber, pairOf, writeOf, writtenTo}
 use Rattle.history.specs.History.{Claims, Demand3, Opens, RightPair}
@@ -24,6 +27,7 @@ use Rattle.exports.specs.Made.{Made, pamzolit-change, pamzolit-undo, pam
 use Rattle.exports.specs.Made.{pamzolit-headroom, pamzolit-write, Opened, Promise, planIn, Held, holding}
 use Rattle.exports.specs.Made.{eventsIn, events}
 use Rattle.exports.specs.PairReply.{pairReply, answerIn}
+use Rattle.exports.specs.declared.held.PairReply.{PairReply}
 
 -- a pair's numbers tell its answer
 pub answer-in : (p : Plan) (s t : ℕ) → answerIn (pairReply (pairOf p s t)) ≡ pairOf p s t
@@ -33,6 +37,21 @@ answer-in p s t = go (pairNumber p s t)
     go : (e : ℕ) → let a = accepted e (answer (p .tree) (p .network .nodes) s t) Refused in answerIn (pairReply a) ≡ a
     go zero = refl
     go (suc e) = refl
+
+number-in : (a : PairAnswer) → pairReply a .number ≡ numberOf a
+number-in (Refused e) = refl
+number-in (Found weight node side size) = refl
+
+-- ---- two pair calls for (s, t) and (t, s), whatever plan the memory holds: the same number is returned, and they are
+-- refused alike, or have the same weight and node, complementary sides, and sizes that add up to n
+pub held-both-ends : (p : Plan) (s t number other : ℕ) (r q : PairReply) (plan₁ plan₂ : Plan)
+    → Promise p (pamzolit-pair s t number r plan₁) → Promise p (pamzolit-pair t s other q plan₂)
+    → (other ≡ number) × BothEnds (p .network .nodes) (answerIn r) (answerIn q)
+held-both-ends p s t number other r q plan₁ plan₂ (e, er, _) (f, fq, _) =
+    let both = pair-both-ends p s t in (
+      f ∙ number-in (pairOf p t s) ∙ both .number ∙ sym (e ∙ number-in (pairOf p s t)),
+      rw (er, fq, answer-in p s t, answer-in p t s) both,
+    )
 
 -- ---- each kind of call, by what its function promises: it is that call of a run, which leaves what the memory then
 -- holds. Headroom and write are no calls of a run: they leave the plan.

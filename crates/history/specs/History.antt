@@ -51,9 +51,9 @@ pub record RightCount (G : Network) (k c count : ℕ) : Type 0 where
   pub counted : count ≡ notKept G k c
   pub most : count ≤ G .nodes - 1
 
--- the first lightest edge on the path of the rule's tree: its node's edge is on the path, and none there is lighter.
--- Its side holds s and not t and has the weight as value, no side that separates s from t has a smaller one, and its
--- size is the number of nodes that the side holds.
+-- the lightest edge on the path of the rule's tree, the lowest number among equals: its node's edge is on the path,
+-- none there is lighter, and none as light has a lower number. Its side holds s and not t and has the weight as value,
+-- no side that separates s from t has a smaller one, and its size is the number of nodes that the side holds.
 pub record RightPair (G : Network) (s t : ℕ) (r : PairAnswer) : Type 0 where
   pub by-rule : r ≡ answer (rule G .tree) (G .nodes) s t
   pub lightest : LightestAnswer (rule G .tree) s t r

@@ -27,13 +27,14 @@ use Rattle.network_file.specs.Reading.{taken, linkAt, readLink, readLinks, read
 use Rattle.network_file.specs.Writing.{linkBytes, fileOf}
 use Rattle.cut_tree.specs.Rule.{moved, stepped, ruleBy, leastCut, rule, noTree}
 use Rattle.cut_tree.specs.Rebuild.{keptBy, keptOrLeastBy, rebuiltBy, rebuilt}
-use Rattle.cut_tree.specs.Path.{reaches, climb, without, path, lightest, lightestOn, sideOf, answer, weightOf}
+use Rattle.cut_tree.specs.Path.{reaches, climb, lightestOf, lightestOn, sideOf, answer, weightOf, nodeOf}
 use Rattle.cut_tree.specs.Definition1.{CutTree}
 use Rattle.cut_tree.specs.declared.Tree.{Tree}
+use Rattle.cut_tree.specs.declared.PairAnswer.{PairAnswer}
 use Rattle.plan.specs.Plan.{maxDepth, treeFits, stepsFit, stackFits, sound, noStack, push, planOf}
 use Rattle.plan.specs.Calls.{openOf, changeNumber, altered, changeOf, pairNumber, pairOf, flowNumber, writeNumber}
 use Rattle.plan.specs.Calls.{writeOf, writtenTo}
-use Rattle.history.specs.Machine.{change, undo, flow, State, begin, refusal, next, state, ask}
+use Rattle.history.specs.Machine.{change, undo, pair, flow, State, begin, refusal, next, state, ask}
 use Rattle.history.specs.Run.{Event, callsOf, Promised, planAfter, left}
 use Rattle.history.specs.History.{AtCall, Replies, Reopens, Demand3}
 use Rattle.history.specs.Whole.{opens-every-network}
@@ -163,8 +164,8 @@ star-flow = (
 )
 
 star-weight : weightOf (pairOf starA 0 1) ≡ 0
-unfolding sum holds word all every blank networkFits reaches treeFits stepsFit stackFits sound climb among without path
-    lightest lightestOn sideOf answer pairNumber pairOf size
+unfolding sum holds first word all every blank networkFits reaches treeFits stepsFit stackFits sound climb among
+    lightestOn lightestOf sideOf answer pairNumber pairOf size
 star-weight = refl
 
 pub star-of-zeros : ¬ (Demand3 starA [])
@@ -206,3 +207,19 @@ unfolding left state next refusal
 undoes-one r₁ r₂ r d =
     sym (getD-take 5 (r .plan .network .capacity) 1 0 (omega arith))
     ∙ ap (λ (cs : List ℕ). at cs 1) (d .plan-left .capacity)
+
+-- ---- beside the note, document 02's: a tie that goes to the edge nearest the asker, as node 3's for (3, 1). Those of
+-- nodes 2 and 3 are equally light, and both ends show the lower number
+abbrev asking : (s t : ℕ) → PairAnswer → Event
+asking s t r = record { call = ask (pair s t); reply = r }
+
+pub shows-one-node : (r q : PairAnswer) → Demand3 planA (asking 3 1 r ∷ asking 1 3 q ∷ [])
+    → (nodeOf r ≡ 2) × (nodeOf q ≡ 2)
+unfolding refusal next sum cutValue holds first leastMinCut word moved stepped ruleBy leastCut rule climb among
+    lightestOn lightestOf sideOf answer size
+shows-one-node r q d =
+    let here = d .replies .0 in
+    let there = d .replies .1 .0 in (
+      ap nodeOf (here .if-accepted (here .number) .by-rule),
+      ap nodeOf (there .if-accepted (there .number) .by-rule),
+    )

@@ -1,4 +1,5 @@
--- Sides as words, and the least minimum cut (the paper: the least side of (s, t)) as the first word in rising order.
+-- The first of the numbers at which a function is least; sides as words, and the least minimum cut (the paper: the
+-- least side of (s, t)) as the first word in rising order.
 use mathlib.Core.Bool.{Bool, true, false, not, _&&_}
 use Prim.Native.Nat.{ℕ, zero, suc, _^_}
 use lib.Dec.{ltb}

@@ -15,7 +15,8 @@ ghost use Rattle.plan.specs.Calls.{maxDemand, pairOf, headroomBy, noHead
 // the highest demand (the paper: need) of a headroom
 pub const MAX_DEMAND: u32 = 1_000_000_000;
 
-// The lightest edge of the tree path from s to t, with the side that holds s once that edge is cut.
+// The lightest edge of the tree path between s and t, the lowest number among equals, with the side that holds s once
+// that edge is cut.
 pub fn pair(p: Plan, s: usize, t: usize) -> PairAnswer
     ensures { λ r. ⌜ r ≡ pairOf p s t ⌝ }
 {

@@ -16,6 +16,7 @@ use crate::machine::top_link;
 use crate::machine::undo_number;
 use crate::machine::undone;
 use crate::pairs::answer_right;
+use crate::pairs::both_ends_right;
 use crate::same::same_network;
 use crate::same::same_plan;
 use crate::same::same_stack;
@@ -86,13 +87,18 @@ fn has_number(answer: PairAnswer, number: u32) -> bool {
     }
 }
 
+// Whether a pair is answered rightly, and from both ends alike.
 pub fn pair_right(p: Plan, x: Machine, values: &[u32; WORDS], s: usize, t: usize) -> bool {
-    let answer = plan::pair(p, s, t);
+    let here = plan::pair(p, s, t);
+    let there = plan::pair(p, t, s);
     let number = pair_number(x, s, t);
     if number != 0 {
-        return has_number(answer, number);
+        return has_number(here, number) && has_number(there, number);
     }
-    answer_right(answer, p.tree, p.network.nodes, values, s, t)
+    if !both_ends_right(here, there, p.network.nodes) {
+        return false;
+    }
+    answer_right(here, p.tree, p.network.nodes, values, s, t)
 }
 
 // Whether every place still holds 7.

@@ -6,6 +6,7 @@ use crate::sides::value_at;
 use cut_tree::PairAnswer;
 use cut_tree::Tree;
 use network::MAX_NODES;
+use std::num::wrapping_add_u64;
 
 fn wide(i: u8) -> usize {
     i as usize
@@ -23,13 +24,13 @@ fn way_up(parent: &[u8; MAX_NODES], i: usize) -> u64 {
     up
 }
 
-// Whether an edge on one of two sides, of the path or not, may have this weight if the lightest on the path is w: there
-// is no lighter one, and of equals none comes sooner from s.
-fn not_lighter(weight: u32, w: u32, on_path: bool, with_s: bool) -> bool {
+// Whether the edge of u, of this weight, may stand beside the answer, the edge of v of weight w: on the path there is
+// no lighter one, and none as light with a lower number.
+fn not_better(u: usize, weight: u32, v: usize, w: u32, on_path: bool) -> bool {
     if !on_path {
         return true;
     }
-    if with_s {
+    if u < v {
         return weight > w;
     }
     weight >= w
@@ -43,7 +44,7 @@ fn edge_right(tree: Tree, path: u64, u: usize, v: usize, side: u64, w: u32) -> b
     let above = holds(side, tree.parent[i] as usize);
     let on_path = holds(path, i);
     if i != v {
-        return below == above && not_lighter(weight, w, on_path, below);
+        return below == above && not_better(i, weight, v, w, on_path);
     }
     below != above && on_path && weight == w
 }
@@ -97,9 +98,9 @@ fn found_right(
     edges_right(tree, n, path, v, side, w)
 }
 
-// Whether an answer for (s, t) is right in this tree of n nodes: the lightest edge on the path, the first of equals met
-// from s, and the side of s once it is cut; and whether its weight is the smallest value of all sides that hold s and
-// not t, which that side has.
+// Whether an answer for (s, t) is right in this tree of n nodes: the lightest edge on the path, of equals the one with
+// the lowest number, and the side of s once it is cut; and whether its weight is the smallest value of all sides that
+// hold s and not t, which that side has.
 pub fn answer_right(
     answer: PairAnswer,
     tree: Tree,
@@ -122,5 +123,36 @@ pub fn answer_right(
                 false
             }
         }
+    }
+}
+
+// Whether two sides share no node and together hold all of n nodes, where n is below 64.
+fn complementary(x: u64, y: u64, n: usize) -> bool {
+    x & y == 0 && wrapping_add_u64(x | y, 1) == 1u64 << (n % 64)
+}
+
+// Whether an answer has this weight and this node, and as its side the complement of the one that is given.
+fn found_from_there(answer: PairAnswer, n: usize, w: u32, v: usize, from_here: u64) -> bool {
+    match answer {
+        PairAnswer::Refused(number) => false,
+        PairAnswer::Found {
+            weight,
+            node,
+            side,
+            size: _,
+        } => weight == w && node == v && complementary(from_here, side, n),
+    }
+}
+
+// Whether the answers for (s, t) and (t, s), two of n nodes, show the same edge, and complementary sides.
+pub fn both_ends_right(here: PairAnswer, there: PairAnswer, n: usize) -> bool {
+    match here {
+        PairAnswer::Refused(number) => false,
+        PairAnswer::Found {
+            weight,
+            node,
+            side,
+            size: _,
+        } => found_from_there(there, n, weight, node, side),
     }
 }

@@ -4,6 +4,7 @@ use crate::keeping::change_of;
 use crate::keeping::steps_not_kept;
 use crate::keeping::with_capacity;
 use crate::pairs::answer_right;
+use crate::pairs::both_ends_right;
 use crate::random::apart;
 use crate::random::draw;
 use crate::random::draw_network;
@@ -30,7 +31,7 @@ use network::Network;
 ghost use mathlib.Core.Bool.{true};
 ghost use mathlib.Core.Path.{_≡_};
 ghost use Rattle.network.specs.Network.{networkFits};
-ghost use Rattle.cut_tree.specs.code.QueryParts.{Climbs};
+ghost use Rattle.cut_tree.specs.Path.{Climbs};
 ghost use Rattle.cut_tree.specs.code.RebuildParts.{Changes};
 
 // How often a network is changed, and of how many nodes and links the networks are.
@@ -65,8 +66,10 @@ fn try_pair(tally: Tally, tree: Tree, n: usize, values: &[u32; WORDS], s: usize,
     if s == t {
         return tally;
     }
-    let answer = cut_tree::query(tree, n, s, t);
-    count_pair(tally, answer_right(answer, tree, n, values, s, t))
+    let here = cut_tree::query(tree, n, s, t);
+    let there = cut_tree::query(tree, n, t, s);
+    let alike = both_ends_right(here, there, n);
+    count_pair(tally, alike && answer_right(here, tree, n, values, s, t))
 }
 
 fn try_pairs(tally: Tally, tree: Tree, n: usize, values: &[u32; WORDS]) -> Tally

@@ -3,7 +3,7 @@
 use crate::cases;
 use crate::model::{self, Plan};
 use crate::random::Random;
-use crate::same::same_plan;
+use crate::same::{pair_reply, same_plan};
 use pamzolit::{Link, Node, Refusal};
 
 #[derive(Clone, Copy, Debug)]
@@ -104,8 +104,7 @@ fn agrees(held: &mut pamzolit::Plan, want: &mut Plan, call: Call) -> bool {
         Call::Undo => numbered(held.undo()) == want.undo(),
         Call::Pair { s, t } => {
             let got = held.pair(Node(s), Node(t));
-            numbered(got.map(|p| (p.weight as u64, p.node.0, p.side.bits(), p.size as u32))) == want.pair(s, t)
-                && got.map_or(true, |p| p.side.len() == p.size)
+            pair_reply(got) == want.pair(s, t) && got.map_or(true, |p| p.side.len() == p.size)
         }
         Call::Flow { s, t, length } => same_flow(held, want, s, t, length),
         Call::Headroom { s, t, demand } => {

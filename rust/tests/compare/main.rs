@@ -1,10 +1,11 @@
-//! The proved library against the independent model: random and damaged files, and histories of calls on held
-//! plans. Seeded; PAMZOLIT_FILES and PAMZOLIT_HISTORIES set the numbers of cases for a longer run.
+//! The proved library against the independent model: random and damaged files, histories of calls on held plans, and
+//! pairs asked from both ends. Seeded; PAMZOLIT_FILES and PAMZOLIT_HISTORIES set the numbers of cases for a longer run.
 #[path = "../model/mod.rs"]
 mod model;
 #[path = "../random/mod.rs"]
 mod random;
 
+mod both_ends;
 mod files;
 mod histories;
 mod same;

@@ -1,6 +1,6 @@
-//! Whether what a plan holds is what the model holds.
+//! Whether what a plan holds is what the model holds, and a pair's reply as the model gives it.
 use crate::model;
-use pamzolit::{Change, Link, LinkState, Node, Side, Step, TreeEdge};
+use pamzolit::{Change, Link, LinkState, Node, Pair, Refusal, Side, Step, TreeEdge};
 
 fn links(plan: &model::Plan) -> Vec<LinkState> {
     let state = |(k, &(a, b, capacity))| LinkState { link: Link(k), a: Node(a), b: Node(b), capacity };
@@ -31,4 +31,9 @@ pub fn same_plan(held: &pamzolit::Plan, want: &model::Plan) -> bool {
         && held.tree().eq(tree(want))
         && held.steps().eq(steps(want))
         && held.changes().eq(changes(want))
+}
+
+/// Weight, node, side, size; or the number of a refusal.
+pub fn pair_reply(got: Result<Pair, Refusal>) -> Result<(u64, usize, u64, u32), u32> {
+    got.map(|p| (p.weight as u64, p.node.0, p.side.bits(), p.size as u32)).map_err(|e| e.number())
 }

@@ -185,6 +185,20 @@ pub struct Tree {
     pub weight: Vec<u64>,
     /// for each node from 1 up: pivot, side, value
     pub steps: Vec<(usize, u64, u64)>,
+    /// for each node from 1 up the nodes below its edge, itself among them; for node 0 all
+    pub below: Vec<u64>,
+}
+
+/// The set of v, its children, their children and so on.
+fn subtree(parent: &[usize], v: usize) -> u64 {
+    let mut set = 1u64 << v;
+    loop {
+        let children = (1..parent.len()).filter(|&i| set >> parent[i] & 1 == 1).fold(0, |w, i| w | 1u64 << i);
+        if set | children == set {
+            return set;
+        }
+        set |= children;
+    }
 }
 
 impl Tree {
@@ -212,28 +226,25 @@ impl Tree {
             }
             steps[s] = (t, x, w);
         }
-        Tree { parent, weight, steps }
+        let below = (0..n).map(|v| subtree(&parent, v)).collect();
+        Tree { parent, weight, steps, below }
     }
 
-    fn up(&self, mut i: usize) -> Vec<usize> {
-        let mut edges = Vec::new();
-        while i != 0 {
-            edges.push(i);
-            i = self.parent[i];
-        }
-        edges
+    /// The edges of the path between s and t: those that separate s from t.
+    pub fn path(&self, s: usize, t: usize) -> impl Iterator<Item = usize> {
+        (1..self.parent.len()).filter(move |&v| (self.below[v] >> s ^ self.below[v] >> t) & 1 == 1)
     }
 
-    /// weight, node, side, size
+    /// The side of s once the edge of v is cut.
+    pub fn side(&self, v: usize, s: usize) -> u64 {
+        if self.below[v] >> s & 1 == 1 { self.below[v] } else { self.below[0] & !self.below[v] }
+    }
+
+    /// weight, node, side, size: of the path's edges the least by weight and then by number
     pub fn pair(&self, s: usize, t: usize) -> (u64, usize, u64, u32) {
-        let (from_s, from_t) = (self.up(s), self.up(t));
-        let mut path: Vec<usize> = from_s.iter().copied().filter(|x| !from_t.contains(x)).collect();
-        path.extend(from_t.iter().rev().copied().filter(|x| !from_s.contains(x)));
-        let least = path.iter().map(|&v| self.weight[v]).min().unwrap();
-        let v = path.iter().copied().find(|&v| self.weight[v] == least).unwrap();
-        let below = |i: usize| self.up(i).contains(&v);
-        let side = (0..self.parent.len()).filter(|&i| below(i) == below(s)).fold(0u64, |w, i| w | 1 << i);
-        (least, v, side, side.count_ones())
+        let (weight, node) = self.path(s, t).map(|v| (self.weight[v], v)).min().unwrap();
+        let side = self.side(node, s);
+        (weight, node, side, side.count_ones())
     }
 }
 

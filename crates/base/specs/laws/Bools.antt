@@ -1,6 +1,8 @@
--- Bools: a fact from its cases, all at once; what a conjunction or a disjunction says of its parts.
+-- Bools: a fact from its cases, all at once; what a conjunction, a disjunction or a difference says of its parts.
 use mathlib.Core.Path.{_≡_, refl, sym}
+use mathlib.Core.Logic.{_⊎_, inl, inr}
 use mathlib.Core.Bool.{Bool, true, false, not, _&&_, _||_, true≢false}
+use Rattle.base.specs.Basics.{pick, differ}
 
 -- a statement at both Bools
 abbrev pub Both : (Bool → Type 0) → Type 0
@@ -43,3 +45,24 @@ and-r false y e = absurd (true≢false (sym e))
 
 pub both : {x y : Bool} → x ≡ true → y ≡ true → x && y ≡ true
 both e f = simp (e, f)
+
+pub or-pick : (x y z : Bool) → ((x || y) || z) ≡ (x || pick y true z)
+or-pick true y z = refl
+or-pick false true z = refl
+or-pick false false z = refl
+
+pub differ-turned : (x y : Bool) → differ x y ≡ differ y x
+differ-turned = bool2 (λ x y. differ x y ≡ differ y x) ((refl, refl), (refl, refl))
+
+pub differ-one : (x y : Bool) → differ x y ≡ true → (x ≡ true) ⊎ (y ≡ true)
+differ-one true y e = inl refl
+differ-one false y e = inr e
+
+pub differ-not : (x y : Bool) → differ x y ≡ true → x ≡ not y
+differ-not true y e = sym e
+differ-not false true e = refl
+differ-not false false e = e
+
+pub not-differ : (x y : Bool) → x ≡ not y → differ x y ≡ true
+not-differ x true e = rw e
+not-differ x false e = rw e

@@ -6,7 +6,8 @@ use native.Mathlib.Omega.{arith}
 use mathlib.Core.List.{List, [], _∷_}
 use native.Mathlib.Decide.{ℕ-discrete}
 use native.Mathlib.Numerals.{add-one}
-use borrow.Author.Tests.{not-true, not-false}
+use lib.Dec.{eqb}
+use borrow.Author.Tests.{ne-eqb, not-true, not-false}
 use Rattle.base.specs.Basics.{all, every}
 use Rattle.base.specs.laws.Bools.{and-l, and-r, both}
 
@@ -84,3 +85,11 @@ answered-no e n = sym e ∙ not-true _ n
 
 pub answered-yes : {r x : Bool} → r ≡ x → not r ≡ false → x ≡ true
 answered-yes e n = sym e ∙ not-false _ n
+
+-- ---- a test of two numbers, turned
+pub eqb-turned : (x y : ℕ) → eqb x y ≡ eqb y x
+eqb-turned x y = go (ℕ-discrete x y)
+  where
+    go : Dec (x ≡ y) → eqb x y ≡ eqb y x
+    go (yes e) = rw e
+    go (no n) = rw (ne-eqb x y n, ne-eqb y x (λ e. n (sym e)))

@@ -9,7 +9,7 @@ use Rattle.base.specs.Word.{holds}
 use Rattle.node_set.specs.Set.{added}
 use Rattle.base.specs.Basics.{pick, at}
 use Rattle.network.specs.Limits.{maxNodes}
-use Rattle.cut_tree.specs.Path.{maxClimb, reaches, under}
+use Rattle.cut_tree.specs.Path.{maxClimb, reaches, Climbs, under}
 
 -- a climb from i stays below a bound
 pub record Inside (parent : List ℕ) (i : ℕ) : Type 0 where
@@ -17,12 +17,6 @@ pub record Inside (parent : List ℕ) (i : ℕ) : Type 0 where
   pub small : bound ≤ maxNodes
   pub here : i < bound
   pub stays : (j : ℕ) → j < bound → at parent j < bound
-
--- every one of n nodes climbs among them to node 0, as in a sound plan
-pub record Climbs (n : ℕ) (parent : List ℕ) : Type 0 where
-  pub small : n ≤ maxNodes
-  pub stays : (i : ℕ) → i < n → at parent i < n
-  pub rooted : (i : ℕ) → i < n → reaches parent maxClimb i ≡ true
 
 -- the nodes from i up to node 0, without it, and no further than the first that is in stop
 unfoldable pub climbTo : ℕ → List ℕ → ℕ → ℕ → List ℕ
@@ -35,9 +29,12 @@ unfoldable pub addedAll : ℕ → List ℕ → ℕ
 addedAll x [] = x
 addedAll x (i ∷ is) = addedAll (added x i) is
 
--- the lighter of best and i, best where they are equal; i where there is none yet, which is 0
+-- the lighter of best and i, the lower number where they are equal; i where there is none yet, which is 0
 unfoldable pub lighter : List ℕ → ℕ → ℕ → ℕ
-lighter weight best i = pick (eqb best 0) i (pick (ltb (at weight i) (at weight best)) i best)
+lighter weight best i =
+    let lower = pick (ltb i best) i best in
+    let other = pick (ltb (at weight best) (at weight i)) best lower in
+    pick (eqb best 0) i (pick (ltb (at weight i) (at weight best)) i other)
 
 unfoldable pub lightestFrom : List ℕ → ℕ → List ℕ → ℕ
 lightestFrom weight best [] = best
@@ -55,9 +52,9 @@ abbrev pub addedIf : Bool → ℕ → ℕ → ℕ
 addedIf true x i = added x i
 addedIf false x i = x
 
--- two nodes that climb to node 0
+-- two of some nodes that all climb to node 0
 pub record Pair (parent : List ℕ) (s t : ℕ) : Type 0 where
-  pub from : Inside parent s
-  pub to : Inside parent t
-  pub rooted-s : reaches parent maxClimb s ≡ true
-  pub rooted-t : reaches parent maxClimb t ≡ true
+  pub count : ℕ
+  pub climbs : Climbs count parent
+  pub from : s < count
+  pub to : t < count

@@ -3,7 +3,7 @@
 use Prim.Native.Nat.{ℕ}
 use mathlib.Core.Path.{_≡_, refl}
 use mathlib.Core.Bool.{true, false}
-use mathlib.Core.List.{List, [], _∷_}
+use mathlib.Core.List.{List, [], _∷_, map}
 use lib.ListN.{take, replicate}
 use Rattle.node_set.specs.Set.{size}
 use Rattle.base.specs.Sum.{sum}
@@ -14,11 +14,12 @@ use Rattle.network.specs.Network.{withCapacity, valueOf, minCutValue}
 use Rattle.network.specs.declared.Network.{Network}
 use Rattle.cut_tree.specs.Rule.{moved, stepped, ruleBy, leastCut, rule}
 use Rattle.cut_tree.specs.Rebuild.{keptBy, keptOrLeastBy, rebuiltBy, notKeptBy, survives, rebuilt, notKept}
-use Rattle.cut_tree.specs.Path.{maxClimb, reaches, climb, without, path, lightest, lightestOn, sideOf, answer}
+use Rattle.cut_tree.specs.Path.{maxClimb, reaches, climb, onPath, lightestOf, lightestOn, sideOf, answer}
 use Rattle.cut_tree.specs.Path.{queryOf}
 use Rattle.base.specs.Basics.{among}
 use Rattle.cut_tree.specs.Definition1.{treeNet}
 use Rattle.cut_tree.specs.declared.Built.{Built}
+use Rattle.cut_tree.specs.declared.Tree.{Tree}
 use Rattle.cut_tree.specs.declared.PairAnswer.the-variants.{Refused, Found}
 
 -- ---- resort A
@@ -86,13 +87,30 @@ counts : (notKept resortA 1 1 ≡ 1) × (notKept resortA 3 4 ≡ 2) × (notKept 
 unfolding notKept notKeptBy keptBy rule ruleBy stepped moved leastCut leastMinCut first holds cutValue sum
 counts = (refl, refl, refl)
 
--- P6; and the other way round: the edges of 3 and of 2 have weight 6 both, and the first that is met counts
-pairs : (answer (rule resortA .tree) 4 3 1 ≡ Found 6 3 8 1) × (answer (rule resortA .tree) 4 1 3 ≡ Found 6 2 3 2)
-unfolding answer sideOf lightestOn lightest path without among climb word rule ruleBy stepped moved leastCut leastMinCut
+-- the path between 3 and 1, of the edges 0 to 4: those of 1, 2 and 3
+path : map (onPath (rule resortA .tree .parent) 3 1) (0 ∷ 1 ∷ 2 ∷ 3 ∷ 4 ∷ [])
+    ≡ false ∷ true ∷ true ∷ true ∷ false ∷ []
+unfolding among climb rule ruleBy stepped moved leastCut leastMinCut first holds cutValue sum
+path = refl
+
+-- P6; and from the other end: the edges of 3 and of 2 have weight 6 both, and the lower number counts
+pairs : (answer (rule resortA .tree) 4 3 1 ≡ Found 6 2 12 2) × (answer (rule resortA .tree) 4 1 3 ≡ Found 6 2 3 2)
+unfolding answer sideOf lightestOn lightestOf among climb word rule ruleBy stepped moved leastCut leastMinCut
     first holds cutValue sum size
 pairs = (refl, refl)
 
--- 14 before 15
+-- ---- ties: 4 below 3 below 1 below 2 below 0. Of equals the lowest number, also inside the path, but first the
+-- weight; a node and itself have no edge between them
+abbrev row : List ℕ → Tree
+row weights = record { parent = 0 ∷ 2 ∷ 0 ∷ 1 ∷ 3 ∷ []; weight = weights }
+
+ties : (lightestOn (row (0 ∷ 5 ∷ 5 ∷ 5 ∷ 5 ∷ [])) 4 0 ≡ 1) × (lightestOn (row (0 ∷ 5 ∷ 5 ∷ 5 ∷ 5 ∷ [])) 0 4 ≡ 1)
+    × (lightestOn (row (0 ∷ 5 ∷ 6 ∷ 4 ∷ 4 ∷ [])) 4 0 ≡ 3) × (lightestOn (row (0 ∷ 5 ∷ 4 ∷ 4 ∷ 5 ∷ [])) 4 1 ≡ 3)
+    × (lightestOn (row (0 ∷ 5 ∷ 5 ∷ 5 ∷ 5 ∷ [])) 4 4 ≡ 0)
+unfolding lightestOn lightestOf first among climb
+ties = (refl, refl, refl, refl, refl)
+
+-- ---- 14 before 15
 refusals : (queryOf (rule resortA .tree) 4 4 4 ≡ Refused 14) × (queryOf (rule resortA .tree) 4 0 4 ≡ Refused 14)
     × (queryOf (rule resortA .tree) 4 2 2 ≡ Refused 15)
 unfolding queryOf
@@ -168,7 +186,7 @@ unfolding rule ruleBy stepped moved leastCut leastMinCut first holds cutValue su
 zero-weight = refl
 
 zero-pair : answer (rule parted .tree) 4 3 1 ≡ Found 0 2 12 2
-unfolding answer sideOf lightestOn lightest path without among climb word rule ruleBy stepped moved leastCut leastMinCut
+unfolding answer sideOf lightestOn lightestOf among climb word rule ruleBy stepped moved leastCut leastMinCut
     first holds cutValue sum size
 zero-pair = refl
 

@@ -15,7 +15,8 @@ use Rattle.cut_tree.specs.Path.{lightestOn, under}
 use Rattle.cut_tree.specs.Definition1.{treeNet, FlowValue, EquivalentFlow, CutTree}
 use Rattle.cut_tree.specs.laws.Depth.{climb-ends}
 use Rattle.cut_tree.specs.laws.RuleTree.{Placed}
-use Rattle.cut_tree.specs.laws.PairLaws.{under-is, under-value, under-minimum, lightest-path, lightest-separates, lightest-node}
+use Rattle.cut_tree.specs.laws.PathLaws.{lightest-node}
+use Rattle.cut_tree.specs.laws.PairLaws.{under-is, under-value, under-minimum, lightest-edge, lightest-separates, placed-climbs}
 use Rattle.cut_tree.specs.laws.PairLaws.{lightest-value, lightest-least}
 use Rattle.cut_tree.specs.laws.TreeValues.{value-le-tree, subtree-value}
 use Rattle.min_cut.specs.StrongDuality.{max-flow-min-cut}
@@ -78,7 +79,7 @@ module _ (net : Network) (w : WithinLimits net) (tree : Tree) (P : Placed (graph
 
     value-tree : cutValue T X ≡ weight
     value-tree =
-        let p = lightest-node G n few in-net tree P s t sl tl d in
+        let p = lightest-node n tree (placed-climbs G n few in-net tree P) s t sl tl d in
         cutValue-ext T n in-tree X (P .0 v) (λ x l. under-is G n few in-net tree P v x (p .0) (p .1) l)
         ∙ subtree-value G n in-net tree P v (p .0) (p .1)
 
@@ -88,7 +89,7 @@ module _ (net : Network) (w : WithinLimits net) (tree : Tree) (P : Placed (graph
     equivalent : EquivalentFlow net tree s t
     equivalent =
         record {
-          smallest = lightest-path G n few in-net tree P s t sl tl d;
+          smallest = lightest-edge G n few in-net tree P s t sl tl d;
           in-network = separating-value G n in-net s t weight sl tl d X separates (lightest-value G n few in-net tree P s t sl tl d) least;
           in-tree = value-in-tree;
         }

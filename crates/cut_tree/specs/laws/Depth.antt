@@ -2,13 +2,13 @@
 -- nodes of v's subtree.
 use mathlib.Core.Path.{_≡_, refl, sym, ap, subst, _∙_}
 use mathlib.Core.Logic.{_≢_}
-use mathlib.Core.Bool.{Bool, true, false, _&&_, true≢false}
+use mathlib.Core.Bool.{Bool, true, false, _&&_}
 use mathlib.Core.List.{List, [], _∷_}
 use Prim.Native.Nat.{ℕ, zero, suc, _-_, _≤_, _<_}
 use native.Mathlib.Omega.{arith}
 use native.Mathlib.Decide.{ℕ-discrete, decLt}
 use lib.Dec.{eqb, ltb}
-use borrow.Author.Tests.{eqb-true, eqb-false, eq-eqb, ne-eqb, lt-ltb, le-ltb}
+use borrow.Author.Tests.{eq-eqb, ne-eqb, lt-ltb, le-ltb}
 use Rattle.base.specs.laws.SumLaws.{sum-at, sum-bits}
 use Rattle.base.specs.Sum.{sum}
 use Rattle.min_cut.specs.Cut.{Net, Side}
@@ -83,15 +83,3 @@ module _ (G : Net) (n : ℕ) (parent : List ℕ) (w : ℕ → ℕ) (Z : ℕ → 
 
   pub climb-through : (left v x : ℕ) → n - 1 ≤ left → 0 < v → v < n → x < n → among v (climb parent left x) ≡ Z v x
   climb-through left v x l vp vl xl = through-deep v vp vl left x xl (omega (arith, depth-le x))
-
-  -- only nodes from 1 on are gone through
-  pub climb-nodes : (v left x : ℕ) → x < n → among v (climb parent left x) ≡ true → (0 < v) × (v < n)
-  unfolding climb among
-  climb-nodes v zero x xl e = absurd (true≢false (sym e))
-  climb-nodes v (suc left) x xl e = go (eqb x 0) (eqb v x) refl refl e (climb-nodes v left (at parent x) (T .done x))
-    where
-      go : (b c : Bool) → eqb x 0 ≡ b → eqb v x ≡ c → among v (pick b [] (x ∷ climb parent left (at parent x))) ≡ true
-          → (among v (climb parent left (at parent x)) ≡ true → (0 < v) × (v < n)) → (0 < v) × (v < n)
-      go true c p q e f = absurd (true≢false (sym e))
-      go false true p q e f = omega (arith, eqb-true v x q, eqb-false x 0 p)
-      go false false p q e f = f (rw q at e)

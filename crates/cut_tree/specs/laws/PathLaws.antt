@@ -1,70 +1,68 @@
--- Laws of tree paths: an edge lies on the path between two nodes where its subtree holds exactly one of them; the lightest edge of a path.
-use mathlib.Core.Path.{_≡_, refl, ap, ap₂, _∙_}
-use mathlib.Core.Logic.{⊎-elim}
-use mathlib.Core.Bool.{Bool, true, false, not, _&&_, _||_}
-use mathlib.Core.List.{List, [], _∷_, reverse}
-use Prim.Native.Nat.{ℕ, _≤_}
+-- Laws of tree paths: nodes from 1 on, and an edge between any two nodes; the lightest edge.
+use mathlib.Core.Path.{_≡_, refl, sym, ap, ap₂, _∙_}
+use mathlib.Core.Logic.{_≢_, _⊎_, ⊎-elim}
+use mathlib.Core.Bool.{Bool, true, false}
+use mathlib.Core.List.{List}
+use Prim.Native.Nat.{ℕ, _<_}
 use native.Mathlib.Omega.{arith}
-use lib.Dec.{ltb}
-use borrow.Author.Tests.{ltb-true, ltb-false}
-use Rattle.base.specs.Basics.{pick, at, differ, among}
-use Rattle.cut_tree.specs.Path.{maxClimb, climb, without, path, lightest, under}
-use Rattle.cut_tree.specs.Definition1.{Lightest}
-use Rattle.cut_tree.specs.laws.MemberLaws.{no-member, among-append, among-back, among-without, among-head, among-later, among-cases}
+use native.Mathlib.Decide.{ℕ-discrete}
+use Rattle.base.specs.laws.Bools.{differ-one}
+use Rattle.base.specs.Basics.{differ, among}
+use Rattle.network.specs.Limits.{maxNodes}
+use Rattle.cut_tree.specs.Path.{maxClimb, Climbs, under, onPath, lightestOf, lightestOn}
+use Rattle.cut_tree.specs.Answer.{LowestLightest}
+use Rattle.cut_tree.specs.laws.ClimbLaws.{climb-end, climb-starts, climb-nodes, climb-nonzero, no-loop}
+use Rattle.cut_tree.specs.laws.LightestLaws.{Best, first-best}
+use Rattle.cut_tree.specs.declared.Tree.{Tree}
 
--- the edges whose subtree holds exactly one of s and t
-pub on-path : (parent : List ℕ) (s t x : ℕ) → among x (path parent s t) ≡ differ (under parent x s) (under parent x t)
-unfolding path
-on-path parent s t x =
-    let up = climb parent maxClimb s in
-    let down = climb parent maxClimb t in
-    among-append x (without down up) (reverse (without up down))
-    ∙ ap₂ _||_ (among-without x down up) (among-back x (without up down) [] ∙ ap (λ b. b || among x []) (among-without x up down))
-    ∙ table (under parent x s) (under parent x t)
-  where
-    table : (a b : Bool) → (a && not b || (b && not a || among x [])) ≡ differ a b
-    table true true = unfold among in refl
-    table true false = refl
-    table false true = refl
-    table false false = unfold among in refl
+-- ---- between two of n nodes that climb to node 0
+module _ (n : ℕ) (tree : Tree) (h : Climbs n (tree .parent)) (s t : ℕ) (sl : s < n) (tl : t < n) where
+  abbrev ps : List ℕ
+  ps = tree .parent
 
--- ---- the lightest
--- u, the lighter of v and x, stands for both
-stands-for : (w : List ℕ) (v x u y : ℕ) (xs : List ℕ) → among u (v ∷ x ∷ xs) ≡ true → at w u ≤ at w v → at w u ≤ at w x
-    → Lightest w (u ∷ xs) y → Lightest w (v ∷ x ∷ xs) y
-stands-for w v x u y xs e lv lx h =
-    record {
-      on-path = ⊎-elim (λ q. rw q e) (λ q. among-later y v (x ∷ xs) (among-later y x xs q)) (among-cases y u xs (h .on-path));
-      least = λ z m. ⊎-elim (λ q. rw q (omega (arith, low))) (later z) (among-cases z v (x ∷ xs) m);
-    }
-  where
-    low : at w y ≤ at w u
-    low = h .least u (among-head u xs)
+  abbrev edges : ℕ → Bool
+  edges = onPath ps s t
 
-    later : (z : ℕ) → among z (x ∷ xs) ≡ true → at w y ≤ at w z
-    later z m = ⊎-elim (λ q. rw q (omega (arith, low))) (λ q. h .least z (among-later z u xs q)) (among-cases z x xs m)
+  pub path-nodes : (u : ℕ) → edges u ≡ true → (0 < u) × (u < n)
+  path-nodes u e =
+      let node = climb-nodes n ps (h .stays) maxClimb in
+      ⊎-elim (node s u sl) (node t u tl) (differ-one (under ps u s) (under ps u t) e)
 
-lightest-of : (w : List ℕ) (v : ℕ) (xs : List ℕ) → Lightest w (v ∷ xs) (lightest w v xs)
-unfolding lightest
-lightest-of w v [] = record {
-  on-path = among-head v [];
-  least = λ y e. ⊎-elim (λ q. rw q (omega arith)) (λ q. absurd (no-member y q)) (among-cases y v [] e);
-}
-lightest-of w v (x ∷ xs) = go (ltb (at w x) (at w v)) refl (λ u. lightest-of w u xs)
-  where
-    go : (b : Bool) → ltb (at w x) (at w v) ≡ b → ((u : ℕ) → Lightest w (u ∷ xs) (lightest w u xs))
-        → Lightest w (v ∷ x ∷ xs) (lightest w (pick b x v) xs)
-    go true e h =
-        stands-for w v x x (lightest w x xs) xs (among-later x v (x ∷ xs) (among-head x xs)) (omega (arith, ltb-true (at w x) (at w v) e))
-        (omega arith) (h x)
-    go false e h = stands-for w v x v (lightest w v xs) xs (among-head v (x ∷ xs)) (omega arith) (ltb-false (at w x) (at w v) e) (h v)
+  own : (i : ℕ) → i < n → i ≢ 0 → under ps i i ≡ true
+  own i l d = climb-starts ps maxClimb i (h .rooted i l) d
 
--- of a list with a member
-pub lightest-among : (w xs : List ℕ) (x : ℕ) → among x xs ≡ true → Lightest w xs (lightest w (at xs 0) xs)
-lightest-among w [] x e = absurd (no-member x e)
-lightest-among w (z ∷ zs) x e =
-    let h = lightest-of w z (z ∷ zs) in
-    record {
-      on-path = ⊎-elim (λ q. rw q (among-head z zs)) (λ q. q) (among-cases (lightest w z (z ∷ zs)) z (z ∷ zs) (h .on-path));
-      least = λ y m. h .least y (among-later y z (z ∷ zs) m);
-    }
+  root : (u i : ℕ) → i ≡ 0 → under ps u i ≡ false
+  root u i e = ap (among u) (climb-end ps maxClimb i e) ∙ unfold among in refl
+
+  -- the edge of one of them, which the other is not below
+  path-edge : s ≢ t → (u : ℕ) × (edges u ≡ true)
+  path-edge d = go (ℕ-discrete s 0) (ℕ-discrete t 0) (under ps s t) (under ps t s) refl refl
+    where
+      of-s : s ≢ 0 → under ps s t ≡ false → edges s ≡ true
+      of-s z e = ap₂ differ (own s sl z) e
+
+      of-t : t ≢ 0 → under ps t s ≡ false → edges t ≡ true
+      of-t z e = ap₂ differ e (own t tl z)
+
+      go : Dec (s ≡ 0) → Dec (t ≡ 0) → (x y : Bool) → under ps s t ≡ x → under ps t s ≡ y → (u : ℕ) × (edges u ≡ true)
+      go (yes e) (yes f) x y p q = absurd (d (e ∙ sym f))
+      go (yes e) (no f) x y p q = (t, of-t f (root t s e))
+      go (no e) (yes f) x y p q = (s, of-s e (root s t f))
+      go (no e) (no f) false y p q = (s, of-s e p)
+      go (no e) (no f) true false p q = (t, of-t f q)
+      go (no e) (no f) true true p q = absurd (no-loop ps maxClimb s t (h .rooted s sl) (h .rooted t tl) d q p)
+
+  -- the lightest edge, 0 where s is t
+  pub path-best : Best (tree .weight) edges (lightestOn tree s t)
+  unfolding lightestOn lightestOf
+  path-best =
+      let small = h .small in
+      first-best (tree .weight) edges maxNodes (ap₂ differ (climb-nonzero ps maxClimb s) (climb-nonzero ps maxClimb t))
+      (λ u e. omega (arith, path-nodes u e .1))
+
+  pub lowest-lightest : s ≢ t → LowestLightest (tree .weight) edges (lightestOn tree s t)
+  lowest-lightest d = let k = path-edge d in path-best .here (path-best .some (k .0) (k .1))
+
+  -- it is named by a node below n that is not 0
+  pub lightest-node : s ≢ t → (0 < lightestOn tree s t) × (lightestOn tree s t < n)
+  lightest-node d = path-nodes (lightestOn tree s t) (lowest-lightest d .lightest .on-path)

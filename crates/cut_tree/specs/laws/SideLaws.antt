@@ -8,17 +8,19 @@ use native.Mathlib.Omega.{arith}
 use native.Mathlib.Decide.{ℕ-discrete}
 use lib.Pow.{pow-lt}
 use borrow.Author.Tests.{lt-ltb}
-use Rattle.base.specs.laws.Bools.{bool1}
+use Rattle.base.specs.laws.Bools.{bool1, bool2, differ-not}
 use Rattle.min_cut.specs.Cut.{Side}
 use Rattle.base.specs.Word.{holds, word}
 use Rattle.base.specs.laws.WordLaws.{same-bits, word-lt, word-holds, holds-out}
-use Rattle.node_set.specs.Set.{added, complementIn}
+use Rattle.node_set.specs.Set.{added, complementIn, size}
 use Rattle.node_set.specs.Members.{added-same, added-other, added-lt, holds-complementIn, complementIn-lt}
+use Rattle.node_set.specs.laws.SizeLaws.{size-complement}
 use Rattle.base.specs.Basics.{at, differ, among}
-use Rattle.cut_tree.specs.Path.{maxClimb, climb, under, sideOf}
-use Rattle.cut_tree.specs.code.QueryParts.{Climbs, Known, addedIf}
+use Rattle.cut_tree.specs.Path.{maxClimb, Climbs, climb, under, onPath, sideOf}
+use Rattle.cut_tree.specs.code.QueryParts.{Known, addedIf}
 use Rattle.cut_tree.specs.laws.ClimbLaws.{inside-next, climbs-inside, reaches-on, climb-end, climb-none, climb-on, climb-starts}
-use Rattle.cut_tree.specs.laws.ClimbLaws.{climb-enough, among-on}
+use Rattle.cut_tree.specs.laws.ClimbLaws.{climb-enough}
+use Rattle.cut_tree.specs.laws.MemberLaws.{among-on}
 
 -- ---- whether a climb goes through v
 module _ (parent : List ℕ) (v left j : ℕ) where
@@ -129,3 +131,31 @@ module _ (parent : List ℕ) (n v s x : ℕ) (l : s < n) (e : x ≡ word n (unde
 
       each : (i : ℕ) → i < n → not (holds (word n (under parent v)) i) ≡ holds (word n other) i
       each i m = ap not (word-holds n (under parent v) i m) ∙ flip (under parent v i) ∙ sym (word-holds n other i m)
+
+pub side-lt : (parent : List ℕ) (n v s : ℕ) → sideOf parent n v s < 2 ^ n
+unfolding sideOf
+side-lt parent n v s = word-lt n _
+
+-- ---- from the other end: the other side
+module _ (parent : List ℕ) (n v s t : ℕ) (e : onPath parent s t v ≡ true) where
+  abbrev X : Side
+  X = under parent v
+
+  side-holds : (i j : ℕ) → i < n → holds (sideOf parent n v j) i ≡ not (differ (X i) (X j))
+  unfolding sideOf
+  side-holds i j l = word-holds n _ i l
+
+  -- who lies as t does, does not lie as s does
+  other-way : (i : ℕ) → not (differ (X i) (X t)) ≡ not (not (differ (X i) (X s)))
+  other-way i =
+      rw (differ-not (X s) (X t) e)
+      (bool2 (λ x y. not (differ x y) ≡ not (not (differ x (not y)))) ((refl, refl), (refl, refl)) (X i) (X t))
+
+  pub sides-turned : sideOf parent n v t ≡ complementIn n (sideOf parent n v s)
+  sides-turned =
+      same-bits n _ _ (side-lt parent n v t) (complementIn-lt n _ (side-lt parent n v s))
+      (λ i l. side-holds i t l ∙ other-way i
+      ∙ sym (holds-complementIn n _ i (side-lt parent n v s) ∙ rw (lt-ltb i n l, side-holds i s l)))
+
+  pub sizes-turned : size n (sideOf parent n v s) + size n (sideOf parent n v t) ≡ n
+  sizes-turned = rw sides-turned (size-complement n _ (side-lt parent n v s))

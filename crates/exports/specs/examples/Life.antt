@@ -12,7 +12,7 @@ use Rattle.base.specs.Basics.{all, every, blank, among}
 use Rattle.network.specs.Network.{networkFits}
 use Rattle.cut_tree.specs.Rule.{moved, stepped, ruleBy, leastCut, rule}
 use Rattle.cut_tree.specs.Rebuild.{keptBy, keptOrLeastBy, rebuiltBy, rebuilt}
-use Rattle.cut_tree.specs.Path.{reaches, climb, without, path, lightest, lightestOn, sideOf, answer}
+use Rattle.cut_tree.specs.Path.{reaches, climb, lightestOf, lightestOn, sideOf, answer}
 use Rattle.plan.specs.Calls.{changeNumber, undoNumber, altered, changeOf, undoOf, pairNumber, pairOf}
 use Rattle.plan.specs.examples.Replies.{short}
 use Rattle.plan.specs.Plan.{treeFits, stepsFit, stackFits, sound}
@@ -23,15 +23,15 @@ use Rattle.exports.specs.PairReply.{pairReply}
 use Rattle.exports.specs.Made.{pamzolit-change, pamzolit-undo, pamzolit-pair, pamzolit-headroom, Held}
 use Rattle.exports.specs.declared.held.PairReply.{PairReply}
 
--- the pair (3, 1): weight 6, the edge of node 3, the side {3}; and a node with itself
+-- the pair (3, 1): weight 6, the edge of node 2, the side {2, 3}; and a node with itself
 abbrev six : PairReply
-six = record { number = 0; weight = 6; side = 8; node = 3; size = 1 }
+six = record { number = 0; weight = 6; side = 12; node = 2; size = 2 }
 
 abbrev refused : PairReply
 refused = record { number = 15; weight = 0; side = 0; node = 0; size = 0 }
 
 pub pair-31 : pairReply (pairOf planA 3 1) ≡ six
-unfolding sum holds word all every blank networkFits reaches climb among without path lightest lightestOn sideOf answer
+unfolding sum holds first word all every blank networkFits reaches climb among lightestOn lightestOf sideOf answer
     size treeFits stepsFit stackFits sound pairNumber pairOf
 pair-31 = refl
 

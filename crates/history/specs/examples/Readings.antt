@@ -17,7 +17,7 @@ use Rattle.network_file.specs.Number.{readGroups, readNumber}
 use Rattle.network_file.specs.Reading.{taken, linkAt, readLink, readLinks, readAll, readFile}
 use Rattle.cut_tree.specs.Rule.{moved, stepped, ruleBy, leastCut, rule}
 use Rattle.cut_tree.specs.Rebuild.{keptBy, keptOrLeastBy, rebuiltBy, rebuilt}
-use Rattle.cut_tree.specs.Path.{reaches, climb, without, path, lightest, lightestOn, sideOf, answer}
+use Rattle.cut_tree.specs.Path.{reaches, climb, lightestOf, lightestOn, sideOf, answer}
 use Rattle.cut_tree.specs.declared.PairAnswer.{PairAnswer}
 use Rattle.cut_tree.specs.declared.PairAnswer.the-variants.{Refused, Found}
 use Rattle.plan.specs.Plan.{treeFits, stepsFit, stackFits, sound}
@@ -103,7 +103,7 @@ table =
     ∷ parents resortA (to 3 4 ∷ back ∷ []) (0 ∷ 0 ∷ 2 ∷ [])
     ∷ weights resortA (to 3 4 ∷ back ∷ []) (8 ∷ 6 ∷ 6 ∷ [])  -- P5
     ∷ notKept resortA (to 3 4 ∷ back ∷ []) 3  -- P5
-    ∷ pair resortA 3 1 6 3 8 1  -- P6
+    ∷ pair resortA 3 1 6 2 12 2  -- P6
     ∷ reads (negsuc 4) (45 ∷ 48 ∷ 46 ∷ 53 ∷ []) ∷ reads (negsuc 9) (45 ∷ 49 ∷ 46 ∷ 48 ∷ [])
     ∷ reads (pos 0) (48 ∷ 46 ∷ 48 ∷ [])  -- P7
     ∷ refused [] 1 0  -- P8
@@ -112,12 +112,13 @@ table =
     ∷ refused (0x02 ∷ 0x01 ∷ 0x00 ∷ 0x00 ∷ 0x00 ∷ []) 7 3  -- P11
     ∷ refused (0x01 ∷ 0x00 ∷ 0x00 ∷ []) 9 2  -- P12
     -- not the paper's
+    ∷ pair resortA 1 3 6 2 3 2
     ∷ parents exchanging [] (2 ∷ 0 ∷ []) ∷ weights exchanging [] (4 ∷ 1 ∷ [])
     ∷ []
 
 pub readings : allStand table ≡ true
 unfolding sum cutValue holds first leastMinCut word all every blank networkFits readGroups readNumber taken linkAt
     readLink readLinks readAll readFile moved stepped ruleBy leastCut rule keptBy keptOrLeastBy rebuiltBy rebuilt
-    reaches climb among without path lightest lightestOn sideOf answer treeFits stepsFit stackFits sound digits textOf
+    reaches climb among lightestOn lightestOf sideOf answer treeFits stepsFit stackFits sound digits textOf
     openOf changeNumber undoNumber altered changeOf undoOf pairNumber pairOf same last played stands allStand table size
 readings = refl

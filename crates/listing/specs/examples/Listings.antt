@@ -14,7 +14,7 @@ use Rattle.network.specs.Network.{networkFits}
 use Rattle.network_file.specs.Number.{readGroups, readNumber}
 use Rattle.network_file.specs.Reading.{taken, linkAt, readLink, readLinks, readAll, readFile}
 use Rattle.cut_tree.specs.Rule.{moved, stepped, ruleBy, leastCut, rule}
-use Rattle.cut_tree.specs.Path.{reaches, climb, without, path, lightest, lightestOn, sideOf, answer}
+use Rattle.cut_tree.specs.Path.{reaches, climb, lightestOf, lightestOn, sideOf, answer}
 use Rattle.text.specs.Text.{digits}
 use Rattle.plan.specs.Plan.{treeFits, stepsFit, stackFits, sound}
 use Rattle.plan.specs.Calls.{openOf, pairNumber, pairOf}
@@ -40,9 +40,9 @@ listing-a : listingOf resortA ≡
     112 ∷ 97 ∷ 105 ∷ 114 ∷ 32 ∷ 50 ∷ 32 ∷ 51 ∷ 32 ∷ 54 ∷ 32 ∷ 55 ∷ 10 ∷  -- pair 2 3 6 7
     []
 unfolding sum cutValue holds first leastMinCut word all every blank networkFits readGroups readNumber taken linkAt
-    readLink readLinks readAll readFile moved stepped ruleBy leastCut rule reaches climb among without path lightest
-    lightestOn sideOf answer size digits treeFits stepsFit stackFits sound openOf pairNumber pairOf decimalsOf treeLine
-    treeLines pairLine pairsOf pairLines planLines listingOf
+    readLink readLinks readAll readFile moved stepped ruleBy leastCut rule reaches climb among lightestOn lightestOf
+    sideOf answer size digits treeFits stepsFit stackFits sound openOf pairNumber pairOf decimalsOf treeLine treeLines
+    pairLine pairsOf pairLines planLines listingOf
 listing-a = refl
 
 -- one node prints nothing

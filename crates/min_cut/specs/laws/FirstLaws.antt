@@ -50,3 +50,19 @@ unfolding first
 first-is ok f zero w l e = absurd (omega arith)
 first-is ok f (suc k) w l e =
     first-step ok f k (first ok f k) w e (first-le ok f k) l (λ m. first-is ok f k w m e) _ _ _ refl refl refl (ℕ-discrete w k)
+
+-- where it is not 0 there is one
+pub first-some : (ok : ℕ → Bool) (f : ℕ → ℕ) (k : ℕ) → (first ok f k ≡ 0 → ⊥) → ok (first ok f k) ≡ true
+unfolding first
+first-some ok f zero n = absurd (n refl)
+first-some ok f (suc k) n = go (ok k) refl (ok b) refl (ltb (f k) (f b)) (first-some ok f k) n
+  where
+    b : ℕ
+    b = first ok f k
+
+    go : (x : Bool) → ok k ≡ x → (y : Bool) → ok b ≡ y → (z : Bool) → ((b ≡ 0 → ⊥) → ok b ≡ true) → (better x y z k b ≡ 0 → ⊥)
+        → ok (better x y z k b) ≡ true
+    go true p true q true ih n = p
+    go true p true q false ih n = q
+    go true p false q z ih n = p
+    go false p y q z ih n = ih n

@@ -1,18 +1,20 @@
 -- How many nodes a side has (docs/SCOPE.md, 6): the size of a set and its lowest node, as counts of the digits of its word.
 use mathlib.Core.Path.{_≡_, refl, sym, ap, _∙_}
 use mathlib.Core.Logic.{_≢_}
-use mathlib.Core.Bool.{true, false, true≢false}
+use mathlib.Core.Bool.{Bool, true, false, not, true≢false}
 use Prim.Native.Nat.{ℕ, zero, suc, _+_, _/_, _%_, _^_, _≤_, _<_}
 use native.Mathlib.Nat.{lt-of-not-le}
 use native.Mathlib.Omega.{arith}
 use lib.Count.{onesIn, ones, ones-step, trailingZeros, under}
 use lib.Dec.{eqb}
+use borrow.Author.Tests.{lt-ltb}
+use Rattle.base.specs.laws.Bools.{bool1}
 use Rattle.base.specs.laws.SumLaws.{sum-at, sum-zero, sum-first}
 use Rattle.base.specs.Sum.{sum}
 use Rattle.base.specs.Word.{bit, holds}
 use Rattle.base.specs.laws.WordLaws.{holds-out, bit-le, low-digit}
-use Rattle.node_set.specs.Set.{width, empty, added, size, Lowest, Counted}
-use Rattle.node_set.specs.Members.{holds-empty, added-same, added-other}
+use Rattle.node_set.specs.Set.{width, empty, added, complementIn, size, Lowest, Counted}
+use Rattle.node_set.specs.Members.{holds-empty, added-same, added-other, holds-complementIn}
 
 pub size-ones : (n x : ℕ) → x < 2 ^ n → size n x ≡ ones x
 unfolding size sum holds onesIn ones
@@ -69,3 +71,16 @@ lowest-bit (suc k) x p l =
 
 pub lowest-is : (x : ℕ) → 0 < x → x < 2 ^ width → Lowest x (trailingZeros width x)
 lowest-is x p l = let b = lowest-bit width x p l in record { here = b .0; none = b .1; small = member-lt width x _ l (b .0) }
+
+-- two sets, each of which has just the nodes that the other has not
+sum-halves : (m : ℕ) (X Y : ℕ → Bool) → ((i : ℕ) → i < m → Y i ≡ not (X i)) → sum m (λ i. bit (X i)) + sum m (λ i. bit (Y i)) ≡ m
+unfolding sum
+sum-halves zero X Y h = refl
+sum-halves (suc m) X Y h =
+    let one = bool1 (λ x. bit x + bit (not x) ≡ 1) (refl, refl) (X m) in
+    omega (arith, sum-halves m X Y (λ i l. h i (omega arith)), ap bit (h m (omega arith)), one)
+
+pub size-complement : (n x : ℕ) → x < 2 ^ n → size n x + size n (complementIn n x) ≡ n
+unfolding size
+size-complement n x l =
+    sum-halves n (holds x) (holds (complementIn n x)) (λ i m. holds-complementIn n x i l ∙ rw (lt-ltb i n m))

@@ -1,12 +1,13 @@
 -- Pair and headroom: one law for each way through the code.
 use mathlib.Core.Path.{_≡_, refl, ap}
-use mathlib.Core.Bool.{Bool, true, false, not, _&&_}
+use mathlib.Core.Bool.{Bool, true, false, not, _&&_, and-comm}
 use mathlib.Core.List.{List, [], _∷_}
 use Prim.Native.Nat.{ℕ, _≤_, _<_}
 use native.Mathlib.Omega.{arith}
 use lib.Dec.{ltb, eqb}
 use lib.IntN.{pos, _-ℤ_}
 use borrow.Author.Tests.{lt-ltb, le-ltb, not-false}
+use Rattle.base.specs.laws.TestLaws.{eqb-turned}
 use Rattle.base.specs.Checks.{Row, row, check, chain, accepted}
 use Rattle.network.specs.Limits.{maxValue}
 use Rattle.cut_tree.specs.Path.{lightestOn, answer, queryOf, numberOf, weightOf}
@@ -83,3 +84,9 @@ module _ (p : Plan) (s t : ℕ) where
     pub headroom-found : (demand : ℕ) → demand ≤ maxDemand → headroomOf p s t demand ≡ headroomBy (pos w -ℤ pos demand)
     unfolding headroomOf headroomNumber
     headroom-found demand l = rw (by-pair (row (ltb maxDemand demand) 17 ∷ []) .1, le-ltb maxDemand demand l, by-pair [] .2)
+
+-- ---- from the other end
+pub rows-turned : (p : Plan) (s t : ℕ) (later : List Row) → chain (nodeRows p s t later) ≡ chain (nodeRows p t s later)
+rows-turned p s t later =
+    let n = p .network .nodes in
+    rw (and-comm (ltb s n) (ltb t n), eqb-turned s t)

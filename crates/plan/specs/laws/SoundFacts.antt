@@ -11,8 +11,7 @@ use Rattle.base.specs.laws.TestLaws.{all-at, shown, head, rest}
 use Rattle.network.specs.Limits.{maxCapacity, maxValue}
 use Rattle.network.specs.Network.{networkFits}
 use Rattle.network.specs.laws.NetworkLaws.{nodes-le}
-use Rattle.cut_tree.specs.Path.{maxClimb, reaches}
-use Rattle.cut_tree.specs.code.QueryParts.{Climbs}
+use Rattle.cut_tree.specs.Path.{maxClimb, reaches, Climbs}
 use Rattle.cut_tree.specs.declared.Tree.{Tree}
 use Rattle.plan.specs.Plan.{maxDepth, treeFits, entryFits, stackFits, sound}
 use Rattle.plan.specs.declared.Plan.{Plan}

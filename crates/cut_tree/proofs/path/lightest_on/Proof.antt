@@ -1,6 +1,7 @@
--- The climb from s, then the climb from t: the path in the order in which it is met from s.
+-- The climb from s, then the climb from t: together the edges of the path.
 use native.Mathlib.Omega.{arith}
 use Rattle.cut_tree.specs.Path.{maxClimb}
+use Rattle.cut_tree.specs.laws.ClimbLaws.{climbs-inside}
 use Rattle.cut_tree.specs.laws.QueryLaws.{lightest-on, up-below}
 use borrow.Author.Needs.{needs}
 use Rattle.cut_tree.proofs.path.lightest_on.Statement.{statement}
@@ -21,13 +22,13 @@ ancestors-requires-2 c κs = search needs
 lightest-up-requires : tie.Need-lightest-up-requires
 lightest-up-requires c κs = search needs
 
-lightest-down-requires : tie.Need-lightest-down-requires
-lightest-down-requires c κs =
+lightest-up-requires-2 : tie.Need-lightest-up-requires-2
+lightest-up-requires-2 c κs =
     let st = c .before .before .before .before .before in
     let a = st .args in
-    let below =
-    up-below (a .parent .now) (c .before .ancestors2 .result) (a .weight .now) maxClimb (a .s) 0 (st .pre .from) (omega arith) in
-    (st .pre .to, omega (arith, c .lightest-up .ensures, below))
+    let from = climbs-inside (st .pre .climbs) (a .s) (st .pre .from) in
+    let below = up-below (a .parent .now) (c .before .ancestors2 .result) (a .weight .now) maxClimb (a .s) 0 from (omega arith) in
+    (climbs-inside (st .pre .climbs) (a .t) (st .pre .to), omega (arith, c .lightest-up .ensures, below))
 
 returns : tie.Need-returns
 returns c =
@@ -36,7 +37,7 @@ returns c =
     let a = v .before .before .args in
     lightest-on (record { parent = a .parent .now; weight = a .weight .now }) _ _ (v .before .before .pre) _ _ _ _ _
     (v .before .empty .ensures) (v .ancestors .ensures) _ (u .before .empty2 .ensures) (u .ancestors2 .ensures)
-    (c .before .lightest-up .ensures) (c .lightest-down .ensures)
+    (c .before .lightest-up .ensures) (c .lightest-up2 .ensures)
 
 pub lightest-on-spec : {M : Type 1} → statement M
 lightest-on-spec =
@@ -47,5 +48,5 @@ lightest-on-spec =
     empty-requires-2
     ancestors-requires-2
     lightest-up-requires
-    lightest-down-requires
+    lightest-up-requires-2
     returns)

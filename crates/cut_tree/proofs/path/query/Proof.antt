@@ -2,7 +2,8 @@
 use Prim.Native.Nat.{_<_}
 use native.Mathlib.Omega.{arith}
 use Rattle.network.specs.Limits.{maxNodes}
-use Rattle.cut_tree.specs.laws.QueryLaws.{refused-s, refused-t, refused-same, answered, pair-climbs, lightestOn-below}
+use Rattle.cut_tree.specs.laws.QueryLaws.{refused-s, refused-t, refused-same, answered, pair-climbs}
+use Rattle.cut_tree.specs.laws.PathLaws.{lightest-node}
 use borrow.Author.Needs.{needs}
 use Rattle.cut_tree.proofs.path.query.Statement.{statement}
 use Rattle.cut_tree.proofs.path.query.Tie as tie
@@ -29,11 +30,13 @@ side-of-requires c κs = search needs
 found : (c : tie.After-side-of) → c .before .before .lightest-on .result < maxNodes
 found c =
     let o = c .before .before in
-    let e = o .before .before .before .before .before .before in
-    let st = e .before .before in
+    let e = o .before .before .before .before .before in
+    let st = e .before .before .before in
     let a = st .args in
-    let pair = pair-climbs (a .tree) (a .n) (a .s) (a .t) (st .pre) (e .before .if1 .left) (e .if2 .left) in
-    omega (arith, o .lightest-on .ensures, lightestOn-below (a .tree) (a .s) (a .t) pair)
+    let below =
+    lightest-node (a .n) (a .tree) (st .pre) (a .s) (a .t) (e .before .before .if1 .left) (e .before .if2 .left) (e .if3 .left) in
+    let few = st .pre .small in
+    omega (arith, o .lightest-on .ensures, below .1, few)
 
 mul-w : tie.Need-mul-w
 mul-w c = omega (arith, found c)

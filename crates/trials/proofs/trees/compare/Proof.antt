@@ -6,7 +6,7 @@ use Rattle.network.specs.laws.NetworkLaws.{nodes-le}
 use Rattle.network.specs.declared.Network.{Network}
 use Rattle.cut_tree.specs.Rule.{rule}
 use Rattle.cut_tree.specs.laws.RuleShape.{rule-shape}
-use Rattle.cut_tree.specs.code.QueryParts.{Climbs}
+use Rattle.cut_tree.specs.Path.{Climbs}
 use Rattle.cut_tree.specs.declared.Built.{Built}
 use borrow.Author.Needs.{needs}
 use Rattle.trials.proofs.trees.compare.Statement.{statement}
