@@ -1,4 +1,5 @@
-// Whether the twin takes the library's way: equal networks, trees and steps after each call, and equal flows.
+// Whether the twin takes the library's way: equal networks, trees and steps after each call, and equal flows; and the
+// plan's lightest edge is that of the twin's tree.
 #pragma once
 #include "held.h"
 #include "twin.h"
@@ -29,6 +30,13 @@ template <class Node> uint32_t path_weight(const Node *parent, const uint32_t *w
     low = UINT32_MAX;
     for (; !above[t]; t = parent[t]) low = std::min(low, weight[t]);
     return std::min(low, least[t]);
+}
+
+// of two nodes or more, the one from 1 up with the least weight, the lowest one among equals, and that weight
+inline pamzolit_edge lightest(const uint32_t *weight, size_t n)
+{
+    const uint32_t *least = std::min_element(weight + 1, weight + n);
+    return {(uint32_t)(least - weight), *least};
 }
 
 // Networks and trees are laid out alike in both, unused places too, so that their bytes can be compared.
@@ -68,6 +76,8 @@ struct Both {
         expect(!memcmp(&plan.network, &now, sizeof now), "the library's network", net);
         expect(!memcmp(&plan.tree, &built.tree, sizeof built.tree), "the library's tree", net);
         expect(same_steps(plan.steps, built.steps, now.nodes), "the library's steps", net);
+        pamzolit_edge edge = lightest(built.tree.weight, now.nodes);
+        expect(!memcmp(&plan.lightest, &edge, sizeof edge), "the library's lightest edge", net);
     }
 
     // a call after which link a.first has capacity a.second

@@ -15,10 +15,10 @@
  * was, and the calls that only ask leave it always. This holds of every content of the plan's memory and of every
  * other argument. A plan that is not sound is refused with 19 by every call.
  *
- * 19 tests shape, not truth: numbers within their limits, parents that lead to node 0, unused places that are 0.
- * Whoever edits a plan so that it keeps this shape gets answers from what the plan then holds. That answers are right,
- * limits exact and changes undone as they were made is proved of plans that come from pamzolit_open, pamzolit_change
- * and pamzolit_undo, nothing else writing them.
+ * 19 tests shape, not truth: numbers within their limits, parents that lead to node 0, a lightest edge that is the
+ * tree's, unused places that are 0. Whoever edits a plan so that it keeps this shape gets answers from what the plan
+ * then holds. That answers are right, limits exact and changes undone as they were made is proved of plans that come
+ * from pamzolit_open, pamzolit_change and pamzolit_undo, nothing else writing them.
  *
  * What the caller owes:
  *   - no pointer is NULL; each is aligned for its type and valid for what it points to, with its length where it has
@@ -78,7 +78,7 @@ enum pamzolit_number {
     PAMZOLIT_NOT_SOUND = 19
 };
 
-/* ---- a plan: 3,096 bytes without padding or pointers, which may be copied, compared and saved as they are */
+/* ---- a plan: 3,104 bytes without padding or pointers, which may be copied, compared and saved as they are */
 
 /* Nodes 0 to nodes - 1, and links of which link k joins a[k] and b[k] and has capacity[k]. Places from links on are
  * 0. */
@@ -113,11 +113,21 @@ struct pamzolit_stack {
     uint32_t capacity[PAMZOLIT_CHANGES];
 };
 
+/* The tree's lightest edge, the one with the lowest node number among equals: the node below it, which is 1 or above,
+ * and its weight; with one node both are 0. Of a plan of two nodes or more that comes from open, change and undo, no
+ * side that is neither empty nor all nodes has a smaller value, no pair has a smaller limit, and some pair has this
+ * one. */
+struct pamzolit_edge {
+    uint32_t node;
+    uint32_t weight;
+};
+
 struct pamzolit_plan {
     struct pamzolit_network network;
     struct pamzolit_tree tree;
     struct pamzolit_steps steps;
     struct pamzolit_stack stack;
+    struct pamzolit_edge lightest;
 };
 
 /* ---- replies */
@@ -212,11 +222,16 @@ PAMZOLIT_AT(pamzolit_stack, depth, 0);
 PAMZOLIT_AT(pamzolit_stack, link, 8);
 PAMZOLIT_AT(pamzolit_stack, capacity, 136);
 
-PAMZOLIT_SIZE(pamzolit_plan, 3096);
+PAMZOLIT_SIZE(pamzolit_edge, 8);
+PAMZOLIT_AT(pamzolit_edge, node, 0);
+PAMZOLIT_AT(pamzolit_edge, weight, 4);
+
+PAMZOLIT_SIZE(pamzolit_plan, 3104);
 PAMZOLIT_AT(pamzolit_plan, network, 0);
 PAMZOLIT_AT(pamzolit_plan, tree, 1552);
 PAMZOLIT_AT(pamzolit_plan, steps, 1872);
 PAMZOLIT_AT(pamzolit_plan, stack, 2704);
+PAMZOLIT_AT(pamzolit_plan, lightest, 3096);
 
 PAMZOLIT_SIZE(pamzolit_pair_reply, 32);
 PAMZOLIT_AT(pamzolit_pair_reply, number, 0);

@@ -42,11 +42,19 @@ pub struct Stack {
 
 #[repr(C)]
 #[derive(Clone, PartialEq, Eq)]
+pub struct Edge {
+    pub node: u32,
+    pub weight: u32,
+}
+
+#[repr(C)]
+#[derive(Clone, PartialEq, Eq)]
 pub struct Plan {
     pub network: Network,
     pub tree: Tree,
     pub steps: Steps,
     pub stack: Stack,
+    pub lightest: Edge,
 }
 
 #[repr(C)]
@@ -68,13 +76,14 @@ pub struct HeadroomReply {
 }
 
 // the header's assertions
-const _: () = assert!(size_of::<Plan>() == 3096 && align_of::<Plan>() == 8);
+const _: () = assert!(size_of::<Plan>() == 3104 && align_of::<Plan>() == 8);
 const _: () = assert!(offset_of!(Plan, network.a) == 16 && offset_of!(Plan, network.b) == 272);
 const _: () = assert!(offset_of!(Plan, network.links) == 8 && offset_of!(Plan, network.capacity) == 528);
 const _: () = assert!(offset_of!(Plan, tree.parent) == 1552 && offset_of!(Plan, tree.weight) == 1616);
 const _: () = assert!(offset_of!(Plan, steps.pivot) == 1872 && offset_of!(Plan, steps.side) == 1936);
 const _: () = assert!(offset_of!(Plan, steps.value) == 2448 && offset_of!(Plan, stack.depth) == 2704);
 const _: () = assert!(offset_of!(Plan, stack.link) == 2712 && offset_of!(Plan, stack.capacity) == 2840);
+const _: () = assert!(offset_of!(Plan, lightest.node) == 3096 && offset_of!(Plan, lightest.weight) == 3100);
 const _: () = assert!(size_of::<PairReply>() == 32 && offset_of!(PairReply, node) == 16);
 const _: () = assert!(size_of::<HeadroomReply>() == 20 && offset_of!(HeadroomReply, text) == 8);
 
@@ -95,6 +104,7 @@ const ZEROS: Plan = Plan {
     tree: Tree { parent: [0; 64], weight: [0; 64] },
     steps: Steps { pivot: [0; 64], side: [0; 64], value: [0; 64] },
     stack: Stack { depth: 0, link: [0; 64], capacity: [0; 64] },
+    lightest: Edge { node: 0, weight: 0 },
 };
 
 /// The plan of a file, or number and place of its refusal.

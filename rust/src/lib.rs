@@ -31,7 +31,8 @@
 //!   ([`Refusal`]).
 //! - An opened plan has a cut tree in the sense of Barth et al., Definition 1: the limit that [`Plan::pair`] gives
 //!   is the value of a minimum cut, and [`Plan::flow`] gives a flow with that total. A pair shows the same edge of
-//!   that tree from both ends, and its two sides are each other's complement.
+//!   that tree from both ends, and its two sides are each other's complement. [`Plan::lightest`] is the lightest of
+//!   all its edges: no pair has a smaller limit.
 //! - After any list of changes, undos, pairs and flows, refused ones among them, the plan is as one opened fresh on
 //!   the file that [`Plan::write`] gives, its capacities are the history's, and every pair's limit is exact. A
 //!   `Plan` has no other way to come about, so this holds of every one.
@@ -42,7 +43,7 @@
 //! Its declarations of the archive's functions and structs are tested against an independent model, not proved, and
 //! so are the compiler's back end and the linking. Nothing is said of time.
 //!
-//! Nothing here panics on bad input or allocates by a caller's number. A plan is plain data of 3,096 bytes, and
+//! Nothing here panics on bad input or allocates by a caller's number. A plan is plain data of 3,104 bytes, and
 //! `Send` and `Sync`.
 #![deny(missing_docs, unsafe_code)]
 

@@ -5,9 +5,9 @@ use crate::side::{Link, Node, Side};
 use crate::{FILE_MAX, FileError, Refusal};
 use std::fmt;
 
-/// The plan of a network: its links, its cut tree, and the changes that can be undone.
+/// The plan of a network: its links, its cut tree with the lightest edge, and the changes that can be undone.
 ///
-/// It is 3,096 bytes of plain data. A clone is a plan of its own, and equal plans answer alike. Nothing but
+/// It is 3,104 bytes of plain data. A clone is a plan of its own, and equal plans answer alike. Nothing but
 /// [`open`], [`change`] and [`undo`] writes it, so what is proved of such plans holds of every `Plan`: see the
 /// [crate's page](crate).
 ///
@@ -279,6 +279,26 @@ impl Plan {
         })
     }
 
+    /// The lightest edge of the cut tree, the one with the lowest node number among equals; none for a plan of one
+    /// node. Its weight is the network's own minimum cut: no side that is neither empty nor all nodes has a smaller
+    /// value, no pair has a smaller limit, and some pair has this one.
+    ///
+    /// ```
+    /// # use pamzolit::{Node, Plan, TreeEdge};
+    /// // resort A of document 01: the edges of 2 and of 3 are the lightest
+    /// let plan = Plan::open(&[4, 5, 0, 1, 5, 1, 2, 3, 2, 3, 4, 0, 3, 2, 0, 2, 1])?;
+    /// assert_eq!(plan.lightest(), Some(TreeEdge { node: Node(2), parent: Node(0), weight: 6 }));
+    /// assert_eq!(Plan::open(&[1, 0])?.lightest(), None);
+    /// # Ok::<(), pamzolit::FileError>(())
+    /// ```
+    pub fn lightest(&self) -> Option<TreeEdge> {
+        let tree = &self.held.tree;
+        let ffi::Edge { node, weight } = self.held.lightest;
+        let node = Node(node as usize);
+        // 0 where there is no other node
+        (node != Node(0)).then(|| TreeEdge { node, parent: Node(tree.parent[node.0].into()), weight })
+    }
+
     /// The steps that made the tree, for the nodes from 1 up.
     ///
     /// ```
@@ -322,6 +342,7 @@ impl fmt::Debug for Plan {
             .field("tree", &self.tree().collect::<Vec<_>>())
             .field("steps", &self.steps().collect::<Vec<_>>())
             .field("changes", &self.changes().collect::<Vec<_>>())
+            .field("lightest", &self.lightest())
             .finish()
     }
 }

@@ -104,6 +104,7 @@ fn looks_and_words() {
         assert_eq!(plan.tree().len() + 1, plan.node_count());
         assert_eq!(plan.steps().len() + 1, plan.node_count());
         assert_eq!(plan.changes().len(), 0);
+        assert_eq!(plan.lightest().is_some(), plan.node_count() > 1);
         assert!(plan.links().nth(usize::MAX).is_none() && !format!("{plan:?}").is_empty());
     }
     for i in NUMBERS {

@@ -81,6 +81,8 @@ impl Lines {
         for (i, (link, capacity)) in plan.stack.iter().enumerate() {
             self.say(format!("before change {i}: link {link}, capacity {capacity}"));
         }
+        let (node, weight) = plan.tree.lightest();
+        self.say(format!("lightest: node {node}, weight {weight}"));
     }
 
     fn pairs(&mut self, plan: &Plan) {

@@ -1,5 +1,5 @@
 //! The model against the readings, its two ways to a least cut against each other, its pairs against a walk
-//! in the tree, and the stored listings against the model.
+//! in the tree, its lightest edge against every side and every pair, and the stored listings against the model.
 mod model;
 mod random;
 use model::{Plan, Tree};
@@ -17,12 +17,40 @@ fn resort_a() {
     assert_eq!(plan.tree.steps[1..].iter().map(|s| s.1).collect::<Vec<_>>(), [2, 12, 8]);
     assert_eq!(plan.pair(3, 1), Ok((6, 2, 12, 2)));
     assert_eq!(plan.pair(1, 3), Ok((6, 2, 3, 2)));
-    assert_eq!(plan.clone().change(1, 1), Ok(1));
+    assert_eq!(plan.tree.lightest(), (2, 6));
+    let mut lower = plan.clone();
+    assert_eq!(lower.change(1, 1), Ok(1));
+    assert_eq!((&lower.tree.weight[1..], lower.tree.lightest()), (&[6, 4, 6][..], (2, 4)));
     let mut other = plan.clone();
     assert_eq!(other.change(3, 4), Ok(2));
     assert_eq!(other.tree.weight, [0, 8, 8, 8]);
+    assert_eq!(other.tree.lightest(), (1, 8));
     assert_eq!(other.undo(), Ok(3));
-    assert_eq!(other.tree, plan.tree);
+    assert_eq!((&other.tree, other.tree.lightest()), (&plan.tree, (2, 6)));
+}
+
+/// Worked out by hand: the weights of the tree, and its lightest edge.
+#[test]
+fn lightest_edges() {
+    let cases: [(&[u8], &[u64], (usize, u64)); 8] = [
+        // one node; two without a link; two with one
+        (&[1, 0], &[], (0, 0)),
+        (&[2, 0], &[0], (1, 0)),
+        (&[2, 1, 0, 1, 6], &[6], (1, 6)),
+        // unconnected: 0 and 1 by 5, 2 and 3 by 7
+        (&[4, 2, 0, 1, 5, 2, 3, 7], &[5, 0, 7], (2, 0)),
+        // unconnected: 0 and 1 by 5 and 2, node 2 by a link of 0, 3 and 4 by 7
+        (&[5, 4, 0, 1, 5, 3, 4, 7, 1, 0, 2, 2, 1, 0], &[7, 0, 0, 7], (2, 0)),
+        // a row whose last link is the lightest, and one whose first and last are
+        (&[4, 3, 0, 1, 5, 1, 2, 4, 2, 3, 3], &[5, 4, 3], (3, 3)),
+        (&[4, 3, 0, 1, 3, 1, 2, 4, 2, 3, 3], &[3, 4, 3], (1, 3)),
+        // a ring of equal links: every cut has at least two of them
+        (&[3, 3, 0, 1, 2, 1, 2, 2, 2, 0, 2], &[4, 4], (1, 4)),
+    ];
+    for (file, weights, lightest) in cases {
+        let tree = Plan::open(file).unwrap().tree;
+        assert_eq!((&tree.weight[1..], tree.lightest()), (weights, lightest), "{file:?}");
+    }
 }
 
 #[test]
@@ -87,6 +115,35 @@ fn pairs_by_a_walk() {
             }
         }
     }
+}
+
+/// The lightest edge's weight is the smallest value of all sides that are neither empty nor all nodes, and the smallest
+/// of all pairs' weights, which is some pair's; no other node has a lighter edge, and no lower one an edge as light.
+#[test]
+fn lightest_by_trial() {
+    let mut random = Random::new(12);
+    let (mut ties, mut last) = (0, 0);
+    for _ in 0..2000 {
+        let net = random.network(8, 14);
+        let (tree, n) = (Tree::of(&net), net.nodes);
+        let (node, weight) = tree.lightest();
+        let all = (1u64 << n) - 1;
+        let least = (1..all).map(|side| net.value(side)).min();
+        let pairs = (0..n).flat_map(|s| (0..n).filter(move |&t| t != s).map(move |t| (s, t)));
+        let limits: Vec<u64> = pairs.map(|(s, t)| tree.pair(s, t).0).collect();
+        if n == 1 {
+            assert_eq!((node, weight, least, limits.len()), (0, 0, None, 0));
+            continue;
+        }
+        assert_eq!(Some(weight), least, "{net:?}");
+        assert!(limits.iter().all(|&limit| limit >= weight) && limits.contains(&weight), "{net:?}");
+        assert!((1..n).contains(&node) && tree.weight[node] == weight, "{net:?}");
+        assert!((1..node).all(|v| tree.weight[v] > weight), "{net:?}");
+        assert!((node..n).all(|v| tree.weight[v] >= weight), "{net:?}");
+        ties += (node + 1..n).any(|v| tree.weight[v] == weight) as usize;
+        last += (n > 2 && node == n - 1) as usize;
+    }
+    assert!(ties > 500 && last > 50, "ties {ties}, last {last}");
 }
 
 /// The stored listings of `tests/pairs` are the model's, of the 1,284 bytes that the program `pairs` reads at most.

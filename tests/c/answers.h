@@ -9,7 +9,8 @@
 #include "sound.h"
 #include "table.h"
 
-/* ---- an accepted change or undo sets one capacity and the stack, and leaves a plan that is sound */
+/* ---- an accepted change or undo sets one capacity and the stack, and leaves a plan that is sound: its lightest edge
+ * is that of its new tree */
 
 static inline void must_have_set(const struct pamzolit_plan *was, const struct desk *desk, size_t link,
                                  uint32_t capacity)

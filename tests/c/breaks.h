@@ -80,6 +80,46 @@ static inline void break_node_0(struct desk *desk, const struct pamzolit_plan *w
     BREAK(p->steps.value[0] = 1);
 }
 
+/* the lightest edge, and its weight in the tree */
+static inline void break_lightest(struct desk *desk, const struct pamzolit_plan *whole)
+{
+    struct pamzolit_edge *edge = &desk->plan.lightest;
+    uint32_t n = (uint32_t)whole->network.nodes;
+    BREAK(edge->node = n);
+    BREAK((edge->node = n, edge->weight = 0));
+    BREAK((edge->node = n, edge->weight = 1));
+    BREAK(edge->node = n + 1);
+    BREAK(edge->node = PAMZOLIT_NODES);
+    BREAK(edge->node += 256);
+    BREAK(edge->node += 65536);
+    BREAK(edge->node = UINT32_MAX);
+    BREAK(edge->weight += 1);
+    BREAK(edge->weight -= 1);
+    BREAK(edge->weight += 65536);
+    BREAK(edge->weight = UINT32_MAX);
+    if (n == 1)
+        return;
+    BREAK(edge->node = 0);
+    BREAK((edge->node = 0, edge->weight = 0));
+    BREAK(desk->plan.tree.weight[edge->node] ^= 1);
+}
+
+/* a node but 0, beside the lightest edge */
+static inline void break_by_weight(struct desk *desk, const struct pamzolit_plan *whole, size_t i)
+{
+    struct pamzolit_plan *p = &desk->plan;
+    uint32_t lightest = whole->lightest.weight;
+    if (i != whole->lightest.node) {
+        BREAK(p->lightest.node = (uint32_t)i);
+        /* heavier, or later and as light */
+        BREAK((p->lightest.node = (uint32_t)i, p->lightest.weight = p->tree.weight[i]));
+    }
+    if (i < whole->lightest.node)
+        BREAK(p->tree.weight[i] = lightest);
+    if (lightest > 0)
+        BREAK(p->tree.weight[i] = lightest - 1);
+}
+
 /* a node but 0 */
 static inline void break_node(struct desk *desk, const struct pamzolit_plan *whole, size_t i)
 {
@@ -93,6 +133,7 @@ static inline void break_node(struct desk *desk, const struct pamzolit_plan *who
         BREAK(p->tree.parent[parent] = (uint8_t)i);
     BREAK(p->tree.weight[i] = 256000001);
     BREAK(p->tree.weight[i] = UINT32_MAX);
+    break_by_weight(desk, whole, i);
     BREAK(p->steps.pivot[i] = (uint8_t)n);
     BREAK(p->steps.pivot[i] = 255);
     BREAK(p->steps.pivot[i] = (uint8_t)i);
@@ -116,6 +157,7 @@ static inline void break_no_node(struct desk *desk, const struct pamzolit_plan *
     BREAK(p->steps.pivot[i] = 1);
     BREAK(p->steps.side[i] = (uint64_t)1 << i);
     BREAK(p->steps.value[i] = 1);
+    BREAK((p->lightest.node = (uint32_t)i, p->lightest.weight = 0));
 }
 
 /* an entry of the stack */
@@ -144,6 +186,7 @@ static inline void break_all(struct desk *desk, const struct pamzolit_plan *whol
     trial.at = 0;
     break_sizes(desk, whole);
     break_node_0(desk, whole);
+    break_lightest(desk, whole);
     for (trial.at = 0; trial.at < PAMZOLIT_LINKS; trial.at++)
         (trial.at < whole->network.links ? break_link : break_no_link)(desk, whole, trial.at);
     for (trial.at = 1; trial.at < PAMZOLIT_NODES; trial.at++)

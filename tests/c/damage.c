@@ -159,7 +159,8 @@ static void only_shape(void)
     try_desk();
 }
 
-/* damage that keeps the shape is not seen: the tree answers, whatever its network has become */
+/* Damage that keeps the shape is not seen: the tree answers, whatever its network has become. Where a weight becomes
+ * the lightest, the shape is kept only if the lightest edge is written over too. */
 static void keeps_the_shape(void)
 {
     trial = (struct trial){names[0], "one that keeps the shape", 0, 0};
@@ -171,6 +172,8 @@ static void keeps_the_shape(void)
     MUST(called(HEADROOM, &desk, &q) == 0 && desk.headroom.value == 255999999);
     MUST(memcmp(desk.headroom.text, "  25599999.9", 12) == 0);
     desk.plan.tree.weight[1] = 0;
+    MUST(called(HEADROOM, &desk, &q) == 19);
+    desk.plan.lightest = (struct pamzolit_edge){.node = 1};
     MUST(called(HEADROOM, &desk, &q) == 0 && desk.headroom.value == -1);
 }
 

@@ -28,7 +28,7 @@ struct desk {
     uint8_t gap_8[64];
 };
 /* padding would not be safe to compare */
-_Static_assert(sizeof(struct desk) == 3096 + 4 + 32 + 20 + 1028 + 1284 + 8 + 8 + 568, "the desk has padding");
+_Static_assert(sizeof(struct desk) == 3104 + 4 + 32 + 20 + 1028 + 1284 + 8 + 8 + 568, "the desk has padding");
 
 enum call { CHANGE, UNDO, PAIR, HEADROOM, FLOW, WRITE, CALLS };
 

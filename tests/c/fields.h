@@ -19,7 +19,7 @@ struct field {
 static const struct field fields[] = {
     ONE(network.nodes), ONE(network.links), MANY(network.a), MANY(network.b), MANY(network.capacity),
     MANY(tree.parent), MANY(tree.weight), MANY(steps.pivot), MANY(steps.side), MANY(steps.value),
-    ONE(stack.depth), MANY(stack.link), MANY(stack.capacity),
+    ONE(stack.depth), MANY(stack.link), MANY(stack.capacity), ONE(lightest.node), ONE(lightest.weight),
 };
 enum { FIELDS = sizeof fields / sizeof fields[0] };
 
@@ -46,6 +46,8 @@ static inline uint64_t telling_number(const struct pamzolit_plan *plan)
         plan->network.nodes - 1, plan->network.nodes, plan->network.nodes + 1,
         plan->network.links - 1, plan->network.links, plan->network.links + 1,
         plan->stack.depth - 1, plan->stack.depth, plan->stack.depth + 1,
+        plan->lightest.node - 1, plan->lightest.node, plan->lightest.node + 1,
+        plan->lightest.weight - 1, plan->lightest.weight, plan->lightest.weight + 1,
     };
     return numbers[draw(sizeof numbers / sizeof numbers[0])];
 }

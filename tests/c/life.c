@@ -167,7 +167,7 @@ static void write_file(size_t room)
     printf("\n");
 }
 
-/* the file of a changed plan opens as that plan without its stack */
+/* the file of a changed plan opens as that plan without its stack, byte for byte */
 static void write_and_open(void)
 {
     desk.plan = first;

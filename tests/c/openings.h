@@ -5,6 +5,7 @@
 #include "desk.h"
 #include "files.h"
 #include "show.h"
+#include "sound.h"
 
 /* a string literal's bytes without the 0 at its end */
 #define BYTES(text) {(const uint8_t *)(text), sizeof(text) - 1}
@@ -45,6 +46,7 @@ static inline void try_opening(struct desk *desk, const uint8_t *file, size_t le
     uint32_t number = opened(desk, file, length);
     printf(": number %u, place %zu\n", (unsigned)number, desk->place);
     if (number == PAMZOLIT_ACCEPTED) {
+        MUST(sound(&desk->plan));
         must_be_blank_elsewhere(&desk->plan);
         must_write_back(desk, file, length);
     } else {

@@ -64,6 +64,16 @@ static inline void shape_stack(struct pamzolit_stack *stack, uint32_t links)
     }
 }
 
+/* each edge in turn, from node 1 on: a lighter one takes the place of the one before */
+static inline struct pamzolit_edge lightest_edge(const struct pamzolit_tree *tree, uint32_t nodes)
+{
+    struct pamzolit_edge edge = {0, 0};
+    for (uint32_t i = 1; i < nodes; i++)
+        if (i == 1 || tree->weight[i] < edge.weight)
+            edge.node = i, edge.weight = tree->weight[i];
+    return edge;
+}
+
 static inline struct pamzolit_plan random_shape(void)
 {
     struct pamzolit_plan plan = {0};
@@ -71,6 +81,7 @@ static inline struct pamzolit_plan random_shape(void)
     shape_tree(&plan.tree, (uint32_t)plan.network.nodes);
     shape_steps(&plan.steps, (uint32_t)plan.network.nodes);
     shape_stack(&plan.stack, (uint32_t)plan.network.links);
+    plan.lightest = lightest_edge(&plan.tree, (uint32_t)plan.network.nodes);
     return plan;
 }
 

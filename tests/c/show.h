@@ -35,6 +35,11 @@ static inline void show_stack(const struct pamzolit_plan *plan)
                (unsigned)plan->stack.capacity[i]);
 }
 
+static inline void show_lightest(const struct pamzolit_plan *plan)
+{
+    printf("lightest: node %u, weight %u\n", (unsigned)plan->lightest.node, (unsigned)plan->lightest.weight);
+}
+
 static inline bool all_zero(const void *start, size_t length)
 {
     for (size_t i = 0; i < length; i++)
@@ -63,6 +68,7 @@ static inline void show_plan(const struct pamzolit_plan *plan)
     show_tree(plan);
     show_steps(plan);
     show_stack(plan);
+    show_lightest(plan);
     must_be_blank_elsewhere(plan);
 }
 

@@ -1,7 +1,9 @@
 /* Whether a plan is sound, from the paper's sentence: "all limits above hold, also for the stack's links and
  * capacities, unused places are 0, house 0 has parent and weight 0, every house reaches house 0 by at most 63 parents,
  * each weight and step cost is at most 256,000,000, each X holds its s, not its pivot, and no bit of n or above, and
- * each pivot is below n. House 0's step is all 0. Parents are below n." */
+ * each pivot is below n. House 0's step is all 0. Parents are below n." And from document 02, section 2: "The plan
+ * shall hold it: the house from 1 up with the lightest weight, lowest number among equals, and that weight; both 0 with
+ * one house. [..] a plan in which it isn't true counts as not sound." */
 #ifndef SOUND_H
 #define SOUND_H
 
@@ -84,10 +86,24 @@ static inline bool sound_stack(const struct pamzolit_stack *stack, size_t links)
     return true;
 }
 
+/* an edge of the tree with its weight: none is lighter, and those of lower nodes are heavier */
+static inline bool sound_lightest(const struct pamzolit_edge *edge, const struct pamzolit_tree *tree, size_t nodes)
+{
+    if (nodes == 1)
+        return edge->node == 0 && edge->weight == 0;
+    if (edge->node == 0 || edge->node >= nodes || edge->weight != tree->weight[edge->node])
+        return false;
+    for (size_t i = 1; i < nodes; i++)
+        if (tree->weight[i] < edge->weight || (tree->weight[i] == edge->weight && i < edge->node))
+            return false;
+    return true;
+}
+
 static inline bool sound(const struct pamzolit_plan *plan)
 {
     return sound_network(&plan->network) && sound_tree(&plan->tree, plan->network.nodes)
-           && sound_steps(&plan->steps, plan->network.nodes) && sound_stack(&plan->stack, plan->network.links);
+           && sound_steps(&plan->steps, plan->network.nodes) && sound_stack(&plan->stack, plan->network.links)
+           && sound_lightest(&plan->lightest, &plan->tree, plan->network.nodes);
 }
 
 #endif

@@ -12,6 +12,7 @@ pub mod Depth
 pub mod RuleShape
 pub mod MemberLaws
 pub mod LightestLaws
+pub mod EdgeLaws
 pub mod PathLaws
 pub mod PairLaws
 pub mod TreeValues

@@ -1,10 +1,12 @@
-// Cut trees (docs/SCOPE.md, 4 and 5): built by Gusfield's rule, worked out again after
-// a change, asked for a pair.
+// Cut trees (docs/SCOPE.md, 4 and 5): built by Gusfield's rule, worked out again after a change, asked for a pair and
+// for their lightest edge.
 mod keep; // which steps are kept, and a step's cut
+mod lightest; // the lightest edge of a tree
 mod path; // the pair query, and whether a node reaches node 0
 mod rule; // one step of the rule
 mod trees; // build and rebuild
 
+pub use crate::lightest::lightest_edge;
 pub use crate::path::MAX_CLIMB;
 pub use crate::path::query;
 pub use crate::path::reaches_root;
@@ -17,6 +19,13 @@ use network::MAX_NODES;
 pub struct Tree {
     pub parent: [u8; MAX_NODES],
     pub weight: [u32; MAX_NODES],
+}
+
+// An edge of a tree: the node below it, and its weight. Both 0 where there is none.
+#[repr(C)]
+pub struct Edge {
+    pub node: u32,
+    pub weight: u32,
 }
 
 // The steps that made a tree: for each node from 1 up its pivot, its least minimum cut and that cut's value.

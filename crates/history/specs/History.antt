@@ -15,12 +15,14 @@ use Rattle.network_file.specs.Writing.{fileOf}
 use Rattle.cut_tree.specs.Rule.{rule}
 use Rattle.cut_tree.specs.Rebuild.{notKept}
 use Rattle.cut_tree.specs.Path.{answer, numberOf, weightOf}
+use Rattle.cut_tree.specs.LightestEdge.{lightestEdge, NetworkCut}
 use Rattle.cut_tree.specs.Definition1.{CutTree}
 use Rattle.cut_tree.specs.Answer.{MinimumAnswer, LightestAnswer}
 use Rattle.cut_tree.specs.declared.PairAnswer.{PairAnswer}
 use Rattle.cut_tree.specs.declared.PairAnswer.the-variants.{Refused}
 use Rattle.plan.specs.Plan.{sound, noStack}
 use Rattle.plan.specs.Calls.{openOf, pairOf, writeOf, writtenTo}
+use Rattle.plan.specs.Lightest.{LeastPair}
 use Rattle.history.specs.Machine.{Query, pair, flow, Call, change, undo, ask, Entry, State, begin, next, state}
 use Rattle.history.specs.Machine.{numbers, numberAt, networkAt, stackOf}
 use Rattle.history.specs.Run.{FlowReply, Answer, Reply, Event, numberIn, callsOf, numbersOf, Answered, planAfter}
@@ -42,6 +44,8 @@ pub record Agrees (net : Network) (x : State) (q : Plan) : Type 0 where
   -- tree and steps by the rule on those capacities
   pub tree : q .tree ≡ rule (q .network) .tree
   pub steps : q .steps ≡ rule (q .network) .steps
+  -- and that tree's lightest edge
+  pub lightest : q .lightest ≡ lightestEdge (q .network .nodes) (rule (q .network) .tree)
   -- sound, so that 19 is never given
   pub is-sound : sound q ≡ true
 
@@ -116,13 +120,14 @@ unfoldable pub applied : List ℕ → List Entry → List ℕ
 applied cs [] = cs
 applied cs (d ∷ ds) = set (applied cs ds) (d .link) (d .capacity)
 
--- ---- opening a file gives the network, tree and steps of p, and an empty stack
+-- ---- opening a file gives the network, tree, steps and lightest edge of p, and an empty stack
 pub record Opens (file : List ℕ) (p : Plan) : Type 0 where
   pub number : openOf file .number ≡ 0
   pub place : openOf file .place ≡ 0
   pub network : openOf file .plan .network ≡ p .network
   pub tree : openOf file .plan .tree ≡ p .tree
   pub steps : openOf file .plan .steps ≡ p .steps
+  pub lightest : openOf file .plan .lightest ≡ p .lightest
   pub stack : openOf file .plan .stack ≡ noStack
 
 -- the file that q's writing puts into any buffer that is long enough opens so
@@ -133,7 +138,7 @@ Reopens q =
 
 -- ---- the claim. p: the plan of the opening; q: the plan that the list leaves; x: the machine after the list
 pub record Claims (p q : Plan) (x : State) (es : List Event) : Type 0 where
-  -- the plan that is left: ends, capacities, stack, tree, steps, soundness
+  -- the plan that is left: ends, capacities, stack, tree, steps, lightest edge, soundness
   pub plan-left : Agrees (p .network) x q
   -- the opening's capacities with each accepted change that is not undone, in order
   pub changes : q .network .capacity ≡ applied (p .network .capacity) (standing [] es)
@@ -152,6 +157,10 @@ pub record Claims (p q : Plan) (x : State) (es : List Event) : Type 0 where
   pub flows : (s t : ℕ) → s < q .network .nodes → t < q .network .nodes → s ≢ t → (r : FlowReply)
       → Answered q (flow s t (q .network .links)) r
       → (r .number ≡ 0) × RightFlow (q .network) s t (weightOf (pairOf q s t)) (r .behind)
+  -- with two nodes or more its lightest edge is the network's own minimum cut: no side that is neither empty nor all
+  -- nodes has a smaller value, no pair has a smaller weight, and some side and some pair have that one
+  pub network-cut : 1 < q .network .nodes → NetworkCut (q .network) (q .lightest .weight)
+  pub least-pair : 1 < q .network .nodes → LeastPair q (q .lightest .weight)
 
 abbrev pub Demand3 : Plan → List Event → Type 0
 Demand3 p es = Claims p (left p es) (state (p .network) (begin (p .network)) (callsOf es)) es

@@ -28,10 +28,12 @@ use Rattle.network_file.specs.Writing.{linkBytes, fileOf}
 use Rattle.cut_tree.specs.Rule.{moved, stepped, ruleBy, leastCut, rule, noTree}
 use Rattle.cut_tree.specs.Rebuild.{keptBy, keptOrLeastBy, rebuiltBy, rebuilt}
 use Rattle.cut_tree.specs.Path.{reaches, climb, lightestOf, lightestOn, sideOf, answer, weightOf, nodeOf}
+use Rattle.cut_tree.specs.LightestEdge.{lightestAmong}
 use Rattle.cut_tree.specs.Definition1.{CutTree}
+use Rattle.cut_tree.specs.declared.Edge.{Edge}
 use Rattle.cut_tree.specs.declared.Tree.{Tree}
 use Rattle.cut_tree.specs.declared.PairAnswer.{PairAnswer}
-use Rattle.plan.specs.Plan.{maxDepth, treeFits, stepsFit, stackFits, sound, noStack, push, planOf}
+use Rattle.plan.specs.Plan.{maxDepth, treeFits, stepsFit, stackFits, sound, noStack, push, planOf, planWith}
 use Rattle.plan.specs.Calls.{openOf, changeNumber, altered, changeOf, pairNumber, pairOf, flowNumber, writeNumber}
 use Rattle.plan.specs.Calls.{writeOf, writtenTo}
 use Rattle.history.specs.Machine.{change, undo, pair, flow, State, begin, refusal, next, state, ask}
@@ -57,7 +59,7 @@ stacking p k c count =
 stale : (count : ℕ) → ¬ (Reopens (stacking planA 3 4 count .plan))
 unfolding sum cutValue holds first leastMinCut all every blank networkFits readGroups readNumber groupBytes numberBytes
     taken linkAt readLink readLinks readAll readFile linkBytes fileOf moved stepped ruleBy leastCut rule reaches
-    treeFits stepsFit stackFits sound openOf writeNumber writeOf writtenTo
+    treeFits stepsFit stackFits lightestOf lightestAmong sound openOf writeNumber writeOf writtenTo
 stale count h =
     let e : _≡_ {A = ℕ} 0 2 = ap (λ (t : Tree). at (t .parent) 3) (h (replicate 17 0) (omega arith) .1 .tree) in
     omega arith
@@ -83,11 +85,28 @@ once-right count = refl
 pub works-once : (count : ℕ) → ¬ (Demand3 planA (twice count))
 unfolding left sum cutValue holds first leastMinCut all every blank networkFits readGroups readNumber groupBytes
     numberBytes taken linkAt readLink readLinks readAll readFile linkBytes fileOf moved stepped ruleBy leastCut rule
-    keptBy keptOrLeastBy rebuiltBy rebuilt reaches treeFits stepsFit stackFits sound openOf changeNumber altered
-    changeOf writeNumber writeOf writtenTo
+    keptBy keptOrLeastBy rebuiltBy rebuilt reaches treeFits stepsFit stackFits lightestOf lightestAmong sound openOf
+    changeNumber altered changeOf writeNumber writeOf writtenTo
 works-once count d =
     let e : _≡_ {A = ℕ} 6 8 =
     ap (λ (t : Tree). at (t .weight) 2) (d .reopened (replicate 17 0) (omega arith) .1 .tree) in
+    omega arith
+
+-- ---- one that works the tree out and leaves the lightest edge of the tree before: in P4 that is node 2's of weight 6,
+-- where the new tree's is node 1's of weight 8
+abbrev pub leavingTheEdge : Plan → (k c : ℕ) → Changed
+leavingTheEdge p k c =
+    let r = changeOf p k c in
+    let q = r .plan in
+    let plan = planWith (q .network) (q .tree) (q .steps) (q .stack) (p .lightest) in
+    record { number = r .number; count = r .count; plan = plan }
+
+pub leaves-the-edge : ¬ (Demand3 planA (changing 3 4 (leavingTheEdge planA 3 4) ∷ []))
+unfolding left sum cutValue holds first leastMinCut all every blank networkFits moved stepped ruleBy leastCut rule
+    keptBy keptOrLeastBy rebuiltBy rebuilt reaches treeFits stepsFit stackFits lightestOf lightestAmong sound
+    changeNumber altered changeOf
+leaves-the-edge d =
+    let e : _≡_ {A = ℕ} 6 8 = ap (λ (x : Edge). x .weight) (d .plan-left .lightest) in
     omega arith
 
 -- ---- a count of steps not got from the keeping rule: the change's own equation has another
@@ -99,7 +118,8 @@ counts-by-the-rule p k c r h z = ap (λ (v : Changed). v .count) h ∙ rw z
 -- P4: two steps are not kept, so neither none nor all three may be counted
 pub counts-two : (r : Changed) → Promised planA (change 3 4) r → r .count ≡ 2
 unfolding sum cutValue holds first leastMinCut all every blank networkFits moved stepped ruleBy leastCut rule keptBy
-    keptOrLeastBy rebuiltBy rebuilt reaches treeFits stepsFit stackFits sound changeNumber altered changeOf
+    keptOrLeastBy rebuiltBy rebuilt reaches treeFits stepsFit stackFits lightestOf lightestAmong sound changeNumber
+    altered changeOf
 counts-two r h = ap (λ (v : Changed). v .count) h
 
 -- ---- 12 or 13 said over a half-filled stack: the plain machine has another number
@@ -152,7 +172,8 @@ starA = planOf networkA noTree stepsA noStack
 
 -- a lawful flow of total 8 is more than a pair's weight of 0
 star-flow : Promised starA (ask (flow 0 1 5)) (record { number = 0; before = replicate 5 (pos 0); behind = eight })
-unfolding holds all every blank networkFits reaches treeFits stepsFit stackFits sound flowNumber
+unfolding holds all every blank networkFits reaches treeFits stepsFit stackFits first lightestOf lightestAmong sound
+    flowNumber
 star-flow = (
   refl,
   record {
@@ -164,8 +185,8 @@ star-flow = (
 )
 
 star-weight : weightOf (pairOf starA 0 1) ≡ 0
-unfolding sum holds first word all every blank networkFits reaches treeFits stepsFit stackFits sound climb among
-    lightestOn lightestOf sideOf answer pairNumber pairOf size
+unfolding sum holds first word all every blank networkFits reaches treeFits stepsFit stackFits lightestAmong sound climb
+    among lightestOn lightestOf sideOf answer pairNumber pairOf size
 star-weight = refl
 
 pub star-of-zeros : ¬ (Demand3 starA [])

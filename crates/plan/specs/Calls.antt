@@ -37,7 +37,7 @@ abbrev pub maxDemand : ℕ
 maxDemand = 1000000000
 
 -- ---- opening
--- the plan of a network: the rule's tree and steps, and an empty stack
+-- the plan of a network: the rule's tree with its lightest edge, the steps, and an empty stack
 abbrev pub fresh : Network → Plan
 fresh net = planOf net (rule net .tree) (rule net .steps) noStack
 

@@ -1,6 +1,6 @@
 -- "The plan": the record, its soundness (number 19) exactly as docs/SCOPE.md, 7 lists it, the plan of all zeros, the
--- stack pushed and popped. This tests shape only: that a tree is the network's cut tree is said of plans reached from
--- an opening.
+-- stack pushed and popped. This tests shape only, and that the lightest edge is the tree's own: that a tree is the
+-- network's cut tree is said of plans reached from an opening.
 use Prim.Native.Nat.{ℕ, zero, suc, _+_, _-_, _^_}
 use mathlib.Core.Bool.{Bool, not}
 use mathlib.Core.List.{[], _∷_}
@@ -13,6 +13,8 @@ use Rattle.network.specs.Network.{networkFits, noNetwork}
 use Rattle.network.specs.declared.Network.{Network}
 use Rattle.cut_tree.specs.Rule.{noTree, noSteps}
 use Rattle.cut_tree.specs.Path.{maxClimb, reaches}
+use Rattle.cut_tree.specs.LightestEdge.{noEdge, lightestEdge, equalEdges}
+use Rattle.cut_tree.specs.declared.Edge.{Edge}
 use Rattle.cut_tree.specs.declared.Tree.{Tree}
 use Rattle.cut_tree.specs.declared.Steps.{Steps}
 use Rattle.plan.specs.declared.Stack.{Stack}
@@ -71,6 +73,7 @@ sound p =
     every (
     networkFits (p .network)
     ∷ treeFits (p .network .nodes) (p .tree)
+    ∷ equalEdges (p .lightest) (lightestEdge (p .network .nodes) (p .tree))
     ∷ stepsFit (p .network .nodes) (p .steps)
     ∷ stackFits (p .network .links) (p .stack)
     ∷ [])
@@ -95,9 +98,14 @@ pop stack =
     }
 
 -- ---- the record, from its parts
+abbrev pub planWith : Network → Tree → Steps → Stack → Edge → Plan
+planWith network tree steps stack lightest =
+    record { network = network; tree = tree; steps = steps; stack = stack; lightest = lightest }
+
+-- with its tree's lightest edge
 abbrev pub planOf : Network → Tree → Steps → Stack → Plan
-planOf network tree steps stack = record { network = network; tree = tree; steps = steps; stack = stack }
+planOf network tree steps stack = planWith network tree steps stack (lightestEdge (network .nodes) tree)
 
 -- all zeros: what stands beside a refused opening
 abbrev pub noPlan : Plan
-noPlan = planOf noNetwork noTree noSteps noStack
+noPlan = planWith noNetwork noTree noSteps noStack noEdge

@@ -1,6 +1,7 @@
 -- Lemmas, for the proofs. Nothing here has to be believed.
 pub mod ShapeLaws
 pub mod SoundLaws
+pub mod WeightLaws
 pub mod SoundFacts
 pub mod AnswersLaws
 pub mod FlowsLaws

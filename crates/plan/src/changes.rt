@@ -33,7 +33,8 @@ fn altered(p: Plan, k: usize, c: u32, stack: Stack) -> Changed
     network.capacity[k] = c;
     let tree = built.tree;
     let steps = built.steps;
-    let plan = plan_of(network, tree, steps, stack);
+    let lightest = cut_tree::lightest_edge(&tree.weight, network.nodes);
+    let plan = plan_of(network, tree, steps, stack, lightest);
     Changed {
         number: 0,
         count: built.count,

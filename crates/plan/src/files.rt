@@ -5,6 +5,7 @@ use crate::Stack;
 use crate::Written;
 use crate::entries;
 use crate::sound::is_sound;
+use cut_tree::Edge;
 use cut_tree::Steps;
 use cut_tree::Tree;
 use network::MAX_LINKS;
@@ -16,7 +17,7 @@ ghost use mathlib.Core.Bool.{true};
 ghost use mathlib.Core.Path.{_≡_};
 ghost use Rattle.network.specs.Network.{networkFits};
 ghost use Rattle.plan.specs.Calls.{fresh, openOf, writeOf, writtenTo};
-ghost use Rattle.plan.specs.Plan.{noPlan, planOf};
+ghost use Rattle.plan.specs.Plan.{noPlan, planWith};
 
 // All zeros: what stands beside a refused file.
 fn no_plan() -> Plan
@@ -40,18 +41,20 @@ fn no_plan() -> Plan
             value: [0; MAX_NODES],
         },
         stack: entries::empty(),
+        lightest: Edge { node: 0, weight: 0 },
     }
 }
 
 // A plan from its parts.
-pub fn plan_of(network: Network, tree: Tree, steps: Steps, stack: Stack) -> Plan
-    ensures { λ r. ⌜ r ≡ planOf network tree steps stack ⌝ }
+pub fn plan_of(network: Network, tree: Tree, steps: Steps, stack: Stack, lightest: Edge) -> Plan
+    ensures { λ r. ⌜ r ≡ planWith network tree steps stack lightest ⌝ }
 {
     Plan {
         network,
         tree,
         steps,
         stack,
+        lightest,
     }
 }
 
@@ -63,7 +66,8 @@ fn fresh(net: Network) -> Plan
     let built = cut_tree::build(net);
     let tree = built.tree;
     let steps = built.steps;
-    plan_of(net, tree, steps, entries::empty())
+    let lightest = cut_tree::lightest_edge(&tree.weight, net.nodes);
+    plan_of(net, tree, steps, entries::empty(), lightest)
 }
 
 // Reads a file and builds its plan; or gives the number and the place of its fault.

@@ -16,6 +16,7 @@ pub use crate::changes::undo;
 pub use crate::files::open;
 pub use crate::files::write;
 pub use crate::flows::flow;
+use cut_tree::Edge;
 use cut_tree::Steps;
 use cut_tree::Tree;
 use network::Network;
@@ -33,13 +34,15 @@ pub struct Stack {
     pub capacity: [u32; MAX_DEPTH],
 }
 
-// A network with its cut tree, the steps that made the tree, and the changes that can be undone.
+// A network with its cut tree, the steps that made the tree, the changes that can be undone, and the tree's lightest
+// edge.
 #[repr(C)]
 pub struct Plan {
     pub network: Network,
     pub tree: Tree,
     pub steps: Steps,
     pub stack: Stack,
+    pub lightest: Edge,
 }
 
 // Replies. A number is a refusal's, or 0.

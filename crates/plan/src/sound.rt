@@ -3,6 +3,7 @@
 use crate::MAX_DEPTH;
 use crate::Plan;
 use crate::Stack;
+use cut_tree::Edge;
 use cut_tree::MAX_CLIMB;
 use cut_tree::Steps;
 use cut_tree::Tree;
@@ -13,11 +14,12 @@ ghost use lib.Dec.{ltb};
 ghost use mathlib.Core.Bool.{true};
 ghost use mathlib.Core.Path.{_≡_};
 ghost use Prim.Native.Nat.{_<_, _≤_};
-ghost use Rattle.base.specs.Basics.{all};
+ghost use Rattle.base.specs.Basics.{all, at};
 ghost use Rattle.network.specs.Limits.{maxNodes};
-ghost use Rattle.plan.specs.Plan.{maxDepth, treeFits, stepFits, stepsFit, entryFits, stackFits, sound};
-ghost use Rattle.plan.specs.code.SoundParts.{parentsWithin, weightsWithin, rooted, rootStepWithin, stepWithin};
-ghost use Rattle.plan.specs.code.SoundParts.{entryWithin};
+ghost use Rattle.cut_tree.specs.LightestEdge.{noEdge, equalEdges};
+ghost use Rattle.plan.specs.Plan.{maxDepth, stepFits, stepsFit, entryFits, stackFits, sound};
+ghost use Rattle.plan.specs.code.SoundParts.{parentsWithin, isEdge, weightWithin, weightsFit, rooted};
+ghost use Rattle.plan.specs.code.SoundParts.{treeWithEdge, rootStepWithin, stepWithin, entryWithin};
 
 fn is_node(i: u8, n: usize) -> bool
     ensures { λ r. ⌜ r ≡ ltb i n ⌝ }
@@ -37,12 +39,60 @@ fn parents_within(parent: &[u8; MAX_NODES], n: usize) -> bool
     true
 }
 
-fn weights_within(weight: &[u32; MAX_NODES], n: usize) -> bool
-    requires { ⌜ n ≤ maxNodes ⌝ }
-    ensures { λ r. ⌜ r ≡ weightsWithin n (now (weight .entry)) ⌝ }
+// What a single node has for its lightest edge.
+fn no_edge(edge: Edge) -> bool
+    ensures { λ r. ⌜ r ≡ equalEdges edge noEdge ⌝ }
 {
-    for i in 0..n {
-        if weight[i] > MAX_VALUE {
+    if edge.node != 0 {
+        return false;
+    }
+    edge.weight == 0
+}
+
+// Whether an edge is that of one of n nodes, with its weight; of one node it is none.
+fn is_edge(weight: &[u32; MAX_NODES], n: usize, edge: Edge) -> bool
+    requires { ⌜ n ≤ maxNodes ⌝ }
+    ensures { λ r. ⌜ r ≡ isEdge n (now (weight .entry)) edge ⌝ }
+{
+    let v = edge.node as usize;
+    if n <= 1 {
+        return no_edge(edge);
+    }
+    if v == 0 {
+        return false;
+    }
+    if v >= n {
+        return false;
+    }
+    weight[v] == edge.weight
+}
+
+// Node i's weight: within the limit, and its edge is not lighter than the lightest, nor as light with a lower number.
+fn weight_within(lightest: Edge, i: usize, weight: u32) -> bool
+    ensures { λ r. ⌜ r ≡ weightWithin lightest i weight ⌝ }
+{
+    if weight > MAX_VALUE {
+        return false;
+    }
+    if weight < lightest.weight {
+        return false;
+    }
+    if weight > lightest.weight {
+        return true;
+    }
+    i >= lightest.node as usize
+}
+
+// The weights, and that the edge is the lightest: one pass over the nodes from 1 up.
+fn weights_fit(weight: &[u32; MAX_NODES], n: usize, lightest: Edge) -> bool
+    requires { ⌜ (0 < n) × (n ≤ maxNodes) × (at (now weight) 0 ≡ 0) ⌝ }
+    ensures { λ r. ⌜ r ≡ weightsFit n (now (weight .entry)) lightest ⌝ }
+{
+    if !is_edge(weight, n, lightest) {
+        return false;
+    }
+    for i in 1..n {
+        if !weight_within(lightest, i, weight[i]) {
             return false;
         }
     }
@@ -61,9 +111,10 @@ fn rooted(parent: &[u8; MAX_NODES], n: usize) -> bool
     true
 }
 
-fn tree_fits(tree: Tree, n: usize) -> bool
-    requires { ⌜ n ≤ maxNodes ⌝ }
-    ensures { λ r. ⌜ r ≡ treeFits n tree ⌝ }
+// The tree, and its lightest edge.
+fn tree_fits(tree: Tree, n: usize, lightest: Edge) -> bool
+    requires { ⌜ (0 < n) × (n ≤ maxNodes) ⌝ }
+    ensures { λ r. ⌜ r ≡ treeWithEdge n tree lightest ⌝ }
 {
     if tree.parent[0] != 0 {
         return false;
@@ -74,7 +125,7 @@ fn tree_fits(tree: Tree, n: usize) -> bool
     if !parents_within(&tree.parent, n) {
         return false;
     }
-    if !weights_within(&tree.weight, n) {
+    if !weights_fit(&tree.weight, n, lightest) {
         return false;
     }
     if !rooted(&tree.parent, n) {
@@ -197,7 +248,7 @@ pub fn is_sound(p: Plan) -> bool
     if !network::fits(net) {
         return false;
     }
-    if !tree_fits(p.tree, n) {
+    if !tree_fits(p.tree, n, p.lightest) {
         return false;
     }
     if !steps_fit(p.steps, n) {

@@ -1,8 +1,9 @@
 // The command `bend FIELD PLACE VALUE`, which sets one number of the plan by hand. Of the field only the first letter
 // counts: nodes, links, end (b of a link), capacity; parent, weight; hinge (a step's pivot), side, value; depth, undone
-// (link of an entry), before.
+// (link of an entry), before; tip (node of the lightest edge), minimum (its weight).
 use crate::line::Given;
 use crate::print::put;
+use cut_tree::Edge;
 use cut_tree::Steps;
 use cut_tree::Tree;
 use network::MAX_LINKS;
@@ -68,17 +69,29 @@ fn bend_stack(stack: Stack, field: u8, i: usize, value: u32) -> Stack {
     bent
 }
 
+fn bend_lightest(edge: Edge, field: u8, value: u32) -> Edge {
+    let mut bent = edge;
+    match field {
+        b't' => bent.node = value,
+        b'm' => bent.weight = value,
+        _ => {}
+    }
+    bent
+}
+
 pub fn bend(plan: Plan, field: u8, given: Given) -> Plan {
     let i = given.second as usize;
     let network = bend_network(plan.network, field, i, given.third);
     let tree = bend_tree(plan.tree, field, i, given.third);
     let steps = bend_steps(plan.steps, field, i, given.third);
     let stack = bend_stack(plan.stack, field, i, given.third);
+    let lightest = bend_lightest(plan.lightest, field, given.third);
     put(b" set");
     Plan {
         network,
         tree,
         steps,
         stack,
+        lightest,
     }
 }

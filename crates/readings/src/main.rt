@@ -9,7 +9,7 @@ mod files; // commands that open a file: open, longest, many
 mod flows; // the command flow
 mod line; // the parts of a line
 mod print; // words, numbers and bytes
-mod show; // commands that show the plan: tree, steps, network
+mod show; // commands that show the plan: tree, edge, steps, network
 mod writing; // the commands write, and again, which opens what is written
 
 use line::Given;
@@ -19,6 +19,7 @@ use plan::Plan;
 fn tell(plan: Plan, command: u8, given: Given) {
     match command {
         b't' => show::tree(plan),
+        b'e' => show::edge(plan),
         b's' => show::steps(plan),
         b'n' => show::network(plan),
         b'p' => answers::pair(plan, given),

@@ -33,6 +33,12 @@ pub fn tree(plan: Plan) {
     }
 }
 
+// `edge`: the tree's lightest edge as the plan holds it, the node below it and its weight.
+pub fn edge(plan: Plan) {
+    put_number(b" node ", plan.lightest.node as u64);
+    put_number(b" weight ", plan.lightest.weight as u64);
+}
+
 fn put_step(steps: Steps, s: usize) {
     if s < MAX_NODES {
         put_row(steps.pivot[s] as u64, steps.side[s], steps.value[s] as u64);

@@ -5,6 +5,7 @@ use crate::keeping::change_of;
 use crate::keeping::steps_not_kept;
 use crate::lawful::balance_of;
 use crate::lawful::lawful;
+use crate::lightest::lightest_right;
 use crate::machine::Machine;
 use crate::machine::change_number;
 use crate::machine::changed;
@@ -41,7 +42,8 @@ fn refused_right(p: Plan, reply: Changed, number: u32) -> bool {
     same_plan(reply.plan, p)
 }
 
-// Whether one was accepted: the machine's capacities and stack, and the keeping rule's count.
+// Whether one was accepted: the machine's capacities and stack, the new tree's lightest edge, and the keeping rule's
+// count.
 fn accepted_right(p: Plan, reply: Changed, h: Change, x: Machine) -> bool {
     let after = reply.plan;
     let old = p.steps;
@@ -53,6 +55,9 @@ fn accepted_right(p: Plan, reply: Changed, h: Change, x: Machine) -> bool {
         return false;
     }
     if !same_stack(after.stack, x.stack) {
+        return false;
+    }
+    if !lightest_right(after) {
         return false;
     }
     steps_not_kept(h, old, new, p.network.nodes) == reply.count

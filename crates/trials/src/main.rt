@@ -6,6 +6,7 @@ mod flows; // least minimum cuts and flows
 mod headrooms; // headrooms and their text
 mod keeping; // which steps a change keeps
 mod lawful; // lawful flows
+mod lightest; // the lightest edge
 mod machine; // the history as a plain machine
 mod pairs; // answers for pairs
 mod plans; // histories of plans

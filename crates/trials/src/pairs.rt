@@ -26,7 +26,7 @@ fn way_up(parent: &[u8; MAX_NODES], i: usize) -> u64 {
 
 // Whether the edge of u, of this weight, may stand beside the answer, the edge of v of weight w: on the path there is
 // no lighter one, and none as light with a lower number.
-fn not_better(u: usize, weight: u32, v: usize, w: u32, on_path: bool) -> bool {
+pub fn not_better(u: usize, weight: u32, v: usize, w: u32, on_path: bool) -> bool {
     if !on_path {
         return true;
     }
@@ -61,7 +61,7 @@ fn edges_right(tree: Tree, n: usize, path: u64, v: usize, side: u64, w: u32) -> 
 }
 
 // Whether v is a node with an edge above it.
-fn has_edge(v: usize, n: usize) -> bool {
+pub fn has_edge(v: usize, n: usize) -> bool {
     0 < v && v < n
 }
 

@@ -9,6 +9,8 @@ use crate::files::damaged_right;
 use crate::files::file_right;
 use crate::files::open_first;
 use crate::files::put_file;
+use crate::lightest::least_right;
+use crate::lightest::lightest_right;
 use crate::machine::Machine;
 use crate::machine::change_number;
 use crate::machine::changed;
@@ -143,7 +145,7 @@ fn try_undo(run: Run) -> Run {
     }
 }
 
-// A pair, flow or headroom call for nodes that may be none or equal.
+// A pair, flow or headroom call for nodes that may be none or equal, and a look at the lightest edge.
 fn try_question(run: Run, kind: usize, v: usize) -> Run {
     let p = run.plan;
     let x = run.machine;
@@ -153,21 +155,20 @@ fn try_question(run: Run, kind: usize, v: usize) -> Run {
     let t = draw(w, n);
     let z = next(w);
     let values = values_if_fits(x.network);
+    let least = least_right(p, &values);
     if kind == 0 {
-        return counted(run, pair_number(x, s, t), pair_right(p, x, &values, s, t));
+        let right = pair_right(p, x, &values, s, t);
+        return counted(run, pair_number(x, s, t), least && right);
     }
     if kind == 1 {
         let m = x.network.links % MAX_LINKS;
         let length = m + draw(z, 1);
-        return counted(
-            run,
-            flow_number(x, s, t, length),
-            flow_right(p, x, &values, s, t, length),
-        );
+        let right = flow_right(p, x, &values, s, t, length);
+        return counted(run, flow_number(x, s, t, length), least && right);
     }
     let demand = some_demand(z);
     let right = headroom_call_right(p, x, &values, s, t, demand);
-    counted(run, headroom_number(x, s, t, demand), right)
+    counted(run, headroom_number(x, s, t, demand), least && right)
 }
 
 // a demand: small, large, or above the limit
@@ -245,7 +246,8 @@ fn try_list(run: Run) -> Run {
     let after = calls_of_list(run, mood);
     let p = after.plan;
     let x = after.machine;
-    let listed = count_list(after.tally, file_right(p, x.network));
+    let least = least_right(p, &values_if_fits(x.network));
+    let listed = count_list(after.tally, least && file_right(p, x.network));
     let tally = try_pairs(listed, p, x);
     Run {
         state: after.state,
@@ -269,8 +271,9 @@ fn try_network(tally: Tally, state: usize, net: Network) -> Tally {
     let opening = open_first(file, length);
     let p = opening.plan;
     let machine = started(net);
-    let right = opening.number == 0 && same_network(p.network, net) && p.stack.depth == 0;
-    let counted = count_network(tally, right && damaged_right(file, length));
+    let opened = opening.number == 0 && same_network(p.network, net) && p.stack.depth == 0;
+    let least = lightest_right(p) && least_right(p, &values_if_fits(net));
+    let counted = count_network(tally, opened && least && damaged_right(file, length));
     try_lists(Run {
         state: state,
         tally: counted,

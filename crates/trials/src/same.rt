@@ -1,4 +1,5 @@
 // Whether two records are equal, place by place.
+use cut_tree::Edge;
 use cut_tree::Steps;
 use cut_tree::Tree;
 use network::MAX_LINKS;
@@ -70,6 +71,10 @@ pub fn same_stack(x: Stack, y: Stack) -> bool {
     x.depth == y.depth && same_entries(x, y)
 }
 
+fn same_edge(x: Edge, y: Edge) -> bool {
+    x.node == y.node && x.weight == y.weight
+}
+
 // All but the stack: what an opening of a plan's file gives again.
 pub fn same_but_stack(x: Plan, y: Plan) -> bool {
     if !same_network(x.network, y.network) {
@@ -78,7 +83,10 @@ pub fn same_but_stack(x: Plan, y: Plan) -> bool {
     if !same_tree(x.tree, y.tree) {
         return false;
     }
-    same_steps(x.steps, y.steps)
+    if !same_steps(x.steps, y.steps) {
+        return false;
+    }
+    same_edge(x.lightest, y.lightest)
 }
 
 pub fn same_plan(x: Plan, y: Plan) -> bool {

@@ -1,6 +1,7 @@
 // A trial of every side. It shares nothing with the code that it judges but the value of a cut, whose contract is its
 // definition.
 use network::Network;
+use std::num::wrapping_add_u64;
 ghost use mathlib.Core.Bool.{true};
 ghost use mathlib.Core.Path.{_≡_};
 ghost use Rattle.network.specs.Network.{networkFits};
@@ -96,4 +97,21 @@ pub fn best_of(values: &[u32; WORDS], s: usize, t: usize) -> Best {
         best = better(best, x as u64, values[x], s, t);
     }
     best
+}
+
+// The smaller one of a value so far and that of a side which is not all of n nodes.
+fn lesser(least: u32, side: u64, value: u32, n: usize) -> u32 {
+    if wrapping_add_u64(side, 1) == 1u64 << (n % 64) {
+        return least;
+    }
+    if value < least { value } else { least }
+}
+
+// The smallest value of all sides that are neither empty nor all of n nodes.
+pub fn least_of_all(values: &[u32; WORDS], n: usize) -> u32 {
+    let mut least = NO_VALUE;
+    for x in 1..WORDS {
+        least = lesser(least, x as u64, values[x], n);
+    }
+    least
 }

@@ -1,7 +1,7 @@
 //! Every pair asked from both ends, in networks of so few different capacities that many paths have several lightest
-//! edges.
+//! edges; and the lightest edge of all beside every pair and every side.
 use crate::cases;
-use crate::model::{Network, Plan};
+use crate::model::{Network, Plan, SMALL};
 use crate::random::Random;
 use crate::same::{pair_reply, same_plan};
 use pamzolit::{Link, Node, Refusal};
@@ -81,9 +81,22 @@ fn ask(held: &pamzolit::Plan, want: &Plan, s: usize, t: usize, seen: &mut Seen) 
     assert_eq!(pair_reply(there), want.pair(t, s), "{}", what());
 }
 
+/// The lightest of all edges has the least weight of all pairs, and of all sides where they can be tried.
+fn lightest_of_all(held: &pamzolit::Plan, want: &Plan) {
+    let lightest = held.lightest().map(|edge| edge.weight);
+    let pairs = held.nodes().flat_map(|s| held.nodes().filter_map(move |t| held.pair(s, t).ok()));
+    assert_eq!(lightest, pairs.map(|pair| pair.weight).min(), "{held:?}");
+    if want.net.nodes <= SMALL {
+        let all = (1u64 << want.net.nodes) - 1;
+        let least = (1..all).map(|side| want.net.value(side)).min();
+        assert_eq!(lightest.map(u64::from), least, "{held:?}");
+    }
+}
+
 /// Every pair of nodes, and of numbers that are none.
 fn ask_all(held: &pamzolit::Plan, want: &Plan, seen: &mut Seen) {
     assert!(same_plan(held, want));
+    lightest_of_all(held, want);
     let n = want.net.nodes;
     let numbers: Vec<usize> = (0..=n).chain([64, usize::MAX]).collect();
     for (i, &t) in numbers.iter().enumerate() {

@@ -123,6 +123,7 @@ fn same_when_reopened(held: &pamzolit::Plan) -> bool {
         && held.links().eq(fresh.links())
         && held.tree().eq(fresh.tree())
         && held.steps().eq(fresh.steps())
+        && held.lightest() == fresh.lightest()
 }
 
 /// A history on a random network. Says how many calls it had.

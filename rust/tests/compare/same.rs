@@ -24,13 +24,20 @@ fn changes(plan: &model::Plan) -> Vec<Change> {
     plan.stack.iter().map(|&(k, before)| Change { link: Link(k), before }).collect()
 }
 
-/// Network, tree, steps and stack.
+fn lightest(plan: &model::Plan) -> Option<TreeEdge> {
+    let (node, weight) = plan.tree.lightest();
+    let edge = TreeEdge { node: Node(node), parent: Node(plan.tree.parent[node]), weight: weight as u32 };
+    (plan.net.nodes > 1).then_some(edge)
+}
+
+/// Network, tree, steps, stack and lightest edge.
 pub fn same_plan(held: &pamzolit::Plan, want: &model::Plan) -> bool {
     held.node_count() == want.net.nodes
         && held.links().eq(links(want))
         && held.tree().eq(tree(want))
         && held.steps().eq(steps(want))
         && held.changes().eq(changes(want))
+        && held.lightest() == lightest(want)
 }
 
 /// Weight, node, side, size; or the number of a refusal.

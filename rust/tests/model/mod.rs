@@ -1,6 +1,6 @@
-//! An independent model of document 01, by definition and not by the library's algorithm: every side is tried where
-//! the network is small, and a preflow-push over a matrix gives the least minimum cut where it is large. It shares
-//! no code with the library.
+//! An independent model of documents 01 and 02, by definition and not by the library's algorithm: every side is tried
+//! where the network is small, and a preflow-push over a matrix gives the least minimum cut where it is large. It
+//! shares no code with the library.
 #![allow(dead_code)] // each test uses its part
 
 pub const SMALL: usize = 9;
@@ -228,6 +228,14 @@ impl Tree {
         }
         let below = (0..n).map(|v| subtree(&parent, v)).collect();
         Tree { parent, weight, steps, below }
+    }
+
+    /// The node from 1 up with the lightest weight, the lowest number among equals, and that weight; both 0 with one
+    /// node.
+    pub fn lightest(&self) -> (usize, u64) {
+        let mut edges: Vec<(u64, usize)> = self.weight.iter().copied().zip(0..).skip(1).collect();
+        edges.sort();
+        edges.first().map_or((0, 0), |&(weight, node)| (node, weight))
     }
 
     /// The edges of the path between s and t: those that separate s from t.

@@ -66,3 +66,7 @@ differ-not false false e = e
 pub not-differ : (x y : Bool) → x ≡ not y → differ x y ≡ true
 not-differ x true e = rw e
 not-differ x false e = rw e
+
+pub never-true : (b : Bool) → ¬ (b ≡ true) → b ≡ false
+never-true true n = absurd (n refl)
+never-true false n = refl

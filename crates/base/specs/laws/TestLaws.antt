@@ -1,6 +1,6 @@
 -- Tests over all places, and lists of tests.
 use mathlib.Core.Path.{_≡_, refl, sym, _∙_}
-use mathlib.Core.Bool.{Bool, true, false, not, true≢false, and-true}
+use mathlib.Core.Bool.{Bool, true, false, not, _&&_, true≢false, and-true}
 use Prim.Native.Nat.{ℕ, zero, suc, _+_, _<_}
 use native.Mathlib.Omega.{arith}
 use mathlib.Core.List.{List, [], _∷_}
@@ -78,6 +78,14 @@ unfolding every
 settled (fail e) = rw e
 settled (pass e s) = rw e (settled s)
 settled (last {x} e) = e ∙ sym (and-true x)
+
+-- two tests that were answered together
+pub pass-two : (x y : Bool) {b : Bool} {xs : List Bool} → (x && y) ≡ true → Settled xs b → Settled (x ∷ y ∷ xs) b
+pass-two x y e s = pass (and-l x y e) (pass (and-r x y e) s)
+
+pub fail-two : (x y : Bool) {xs : List Bool} → (x && y) ≡ false → Settled (x ∷ y ∷ xs) false
+fail-two true y e = pass refl (fail e)
+fail-two false y e = fail refl
 
 -- a test that a function answered with r
 pub answered-no : {r x : Bool} → r ≡ x → not r ≡ true → x ≡ false

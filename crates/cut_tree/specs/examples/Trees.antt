@@ -1,5 +1,5 @@
--- Worked examples of the rule, the rebuild and the pair query, by evaluation: readings P1 to P6 (docs/SCOPE.md, 10),
--- and what they leave open.
+-- Worked examples of the rule, the rebuild, the pair query and the lightest edge, by evaluation: readings P1 to P6
+-- (docs/SCOPE.md, 10), and what they leave open.
 use Prim.Native.Nat.{ℕ}
 use mathlib.Core.Path.{_≡_, refl}
 use mathlib.Core.Bool.{true, false}
@@ -17,8 +17,10 @@ use Rattle.cut_tree.specs.Rebuild.{keptBy, keptOrLeastBy, rebuiltBy, not
 use Rattle.cut_tree.specs.Path.{maxClimb, reaches, climb, onPath, lightestOf, lightestOn, sideOf, answer}
 use Rattle.cut_tree.specs.Path.{queryOf}
 use Rattle.base.specs.Basics.{among}
+use Rattle.cut_tree.specs.LightestEdge.{lightestEdge, lightestAmong}
 use Rattle.cut_tree.specs.Definition1.{treeNet}
 use Rattle.cut_tree.specs.declared.Built.{Built}
+use Rattle.cut_tree.specs.declared.Edge.{Edge}
 use Rattle.cut_tree.specs.declared.Tree.{Tree}
 use Rattle.cut_tree.specs.declared.PairAnswer.the-variants.{Refused, Found}
 
@@ -109,6 +111,28 @@ ties : (lightestOn (row (0 ∷ 5 ∷ 5 ∷ 5 ∷ 5 ∷ [])) 4 0 ≡ 1) × (light
     × (lightestOn (row (0 ∷ 5 ∷ 5 ∷ 5 ∷ 5 ∷ [])) 4 4 ≡ 0)
 unfolding lightestOn lightestOf first among climb
 ties = (refl, refl, refl, refl, refl)
+
+-- ---- the lightest edge of a tree
+abbrev edge : (node weight : ℕ) → Edge
+edge node weight = record { node = node; weight = weight }
+
+-- of resort A, where the edges of 2 and 3 have weight 6 both; of P3 and of P4
+lightest : (lightestEdge 4 (rule resortA .tree) ≡ edge 2 6)
+    × (lightestEdge 4 (rebuilt resortA (rule resortA .steps) 1 1 .tree) ≡ edge 2 4)
+    × (lightestEdge 4 (rebuilt resortA (rule resortA .steps) 3 4 .tree) ≡ edge 1 8)
+unfolding lightestAmong lightestOf rebuilt rebuiltBy keptOrLeastBy keptBy rule ruleBy stepped moved leastCut leastMinCut
+    first holds cutValue sum
+lightest = (refl, refl, refl)
+
+-- the lowest number among equals, wherever it stands in the tree, but first the weight; node 0 and nodes from n on have
+-- no edge, and a single node has none, whatever stands at its place
+lightest-ties : (lightestEdge 5 (row (0 ∷ 5 ∷ 4 ∷ 4 ∷ 5 ∷ [])) ≡ edge 2 4)
+    × (lightestEdge 5 (row (0 ∷ 5 ∷ 5 ∷ 5 ∷ 5 ∷ [])) ≡ edge 1 5)
+    × (lightestEdge 5 (row (0 ∷ 5 ∷ 6 ∷ 6 ∷ 4 ∷ [])) ≡ edge 4 4)
+    × (lightestEdge 4 (row (0 ∷ 5 ∷ 6 ∷ 6 ∷ 4 ∷ [])) ≡ edge 1 5) × (lightestEdge 2 (row (0 ∷ 0 ∷ [])) ≡ edge 1 0)
+    × (lightestEdge 1 (row (7 ∷ 3 ∷ [])) ≡ edge 0 0)
+unfolding lightestAmong lightestOf first
+lightest-ties = (refl, refl, refl, refl, refl, refl)
 
 -- ---- 14 before 15
 refusals : (queryOf (rule resortA .tree) 4 4 4 ≡ Refused 14) × (queryOf (rule resortA .tree) 4 0 4 ≡ Refused 14)

@@ -1,6 +1,6 @@
 -- Laws of tree paths: nodes from 1 on, and an edge between any two nodes; the lightest edge.
 use mathlib.Core.Path.{_≡_, refl, sym, ap, ap₂, _∙_}
-use mathlib.Core.Logic.{_≢_, _⊎_, ⊎-elim}
+use mathlib.Core.Logic.{_≢_, ⊎-elim}
 use mathlib.Core.Bool.{Bool, true, false}
 use mathlib.Core.List.{List}
 use Prim.Native.Nat.{ℕ, _<_}
@@ -33,6 +33,10 @@ module _ (n : ℕ) (tree : Tree) (h : Climbs n (tree .parent)) (s t : ℕ) (sl :
 
   root : (u i : ℕ) → i ≡ 0 → under ps u i ≡ false
   root u i e = ap (among u) (climb-end ps maxClimb i e) ∙ unfold among in refl
+
+  -- a node's own edge is on its path to node 0
+  pub root-edge : s ≢ 0 → t ≡ 0 → edges s ≡ true
+  root-edge z e = ap₂ differ (own s sl z) (root s t e)
 
   -- the edge of one of them, which the other is not below
   path-edge : s ≢ t → (u : ℕ) × (edges u ≡ true)

@@ -13,6 +13,7 @@ use Rattle.network.specs.Network.{networkFits}
 use Rattle.cut_tree.specs.Rule.{moved, stepped, ruleBy, leastCut, rule}
 use Rattle.cut_tree.specs.Rebuild.{keptBy, keptOrLeastBy, rebuiltBy, rebuilt}
 use Rattle.cut_tree.specs.Path.{reaches, climb, lightestOf, lightestOn, sideOf, answer}
+use Rattle.cut_tree.specs.LightestEdge.{lightestAmong}
 use Rattle.plan.specs.Calls.{changeNumber, undoNumber, altered, changeOf, undoOf, pairNumber, pairOf}
 use Rattle.plan.specs.examples.Replies.{short}
 use Rattle.plan.specs.Plan.{treeFits, stepsFit, stackFits, sound}
@@ -31,12 +32,13 @@ abbrev refused : PairReply
 refused = record { number = 15; weight = 0; side = 0; node = 0; size = 0 }
 
 pub pair-31 : pairReply (pairOf planA 3 1) ≡ six
-unfolding sum holds first word all every blank networkFits reaches climb among lightestOn lightestOf sideOf answer
-    size treeFits stepsFit stackFits sound pairNumber pairOf
+unfolding sum holds first word all every blank networkFits reaches climb among lightestOn lightestOf sideOf answer size
+    treeFits stepsFit stackFits lightestAmong sound pairNumber pairOf
 pair-31 = refl
 
 pub pair-33 : pairReply (pairOf planA 3 3) ≡ refused
-unfolding holds all every blank networkFits reaches treeFits stepsFit stackFits sound pairNumber pairOf
+unfolding holds all every blank networkFits reaches treeFits stepsFit stackFits first lightestOf lightestAmong sound
+    pairNumber pairOf
 pair-33 = refl
 
 -- link 3 from 2 to 4, which keeps one of three steps, and undone, which keeps none
@@ -45,13 +47,14 @@ p₁ = changeOf planA 3 4 .plan
 
 pub change-34 : record { number = 0; count = 2; plan = p₁ } ≡ changeOf planA 3 4
 unfolding sum cutValue holds first leastMinCut word all every blank networkFits moved stepped ruleBy leastCut rule
-    keptBy keptOrLeastBy rebuiltBy rebuilt reaches treeFits stepsFit stackFits sound changeNumber altered changeOf
+    keptBy keptOrLeastBy rebuiltBy rebuilt reaches treeFits stepsFit stackFits lightestOf lightestAmong sound
+    changeNumber altered changeOf
 change-34 = refl
 
 pub undo-34 : record { number = 0; count = 3; plan = planA } ≡ undoOf p₁
 unfolding sum cutValue holds first leastMinCut word all every blank networkFits moved stepped ruleBy leastCut rule
-    keptBy keptOrLeastBy rebuiltBy rebuilt reaches treeFits stepsFit stackFits sound changeNumber undoNumber altered
-    changeOf undoOf
+    keptBy keptOrLeastBy rebuiltBy rebuilt reaches treeFits stepsFit stackFits lightestOf lightestAmong sound
+    changeNumber undoNumber altered changeOf undoOf
 undo-34 = refl
 
 -- "-0.5"

@@ -18,6 +18,7 @@ use Rattle.network_file.specs.Reading.{taken, linkAt, readLink, readLinks, read
 use Rattle.cut_tree.specs.Rule.{moved, stepped, ruleBy, leastCut, rule}
 use Rattle.cut_tree.specs.Rebuild.{keptBy, keptOrLeastBy, rebuiltBy, rebuilt}
 use Rattle.cut_tree.specs.Path.{reaches, climb, lightestOf, lightestOn, sideOf, answer}
+use Rattle.cut_tree.specs.LightestEdge.{lightestAmong}
 use Rattle.cut_tree.specs.declared.PairAnswer.{PairAnswer}
 use Rattle.cut_tree.specs.declared.PairAnswer.the-variants.{Refused, Found}
 use Rattle.plan.specs.Plan.{treeFits, stepsFit, stackFits, sound}
@@ -38,6 +39,8 @@ pub data Reading : Type 0 where
   weights : (file : List ℕ) → List Alter → List ℕ → Reading
   sides : (file : List ℕ) → List Alter → List ℕ → Reading
   notKept : (file : List ℕ) → List Alter → ℕ → Reading
+  -- the lightest edge that the plan then holds
+  lightest : (file : List ℕ) → List Alter → (node weight : ℕ) → Reading
   -- a pair call's answer
   pair : (file : List ℕ) (s t : ℕ) (weight node side size : ℕ) → Reading
   -- a headroom's text, without the spaces before it
@@ -64,7 +67,7 @@ nodesHave r values expected = eqb (r .number) 0 && same (take (r .plan .network 
 abbrev pub zeros : Plan → Bool
 zeros p =
     every (
-    eqb (p .network .nodes + p .network .links + p .stack .depth) 0
+    eqb (p .network .nodes + p .network .links + p .stack .depth + p .lightest .node + p .lightest .weight) 0
     ∷ blank (p .network .a) ∷ blank (p .network .b) ∷ blank (p .network .capacity)
     ∷ blank (p .tree .parent) ∷ blank (p .tree .weight)
     ∷ blank (p .steps .pivot) ∷ blank (p .steps .side) ∷ blank (p .steps .value)
@@ -80,6 +83,9 @@ stands (parents file xs expected) = let r = played file xs in nodesHave r (r .pl
 stands (weights file xs expected) = let r = played file xs in nodesHave r (r .plan .tree .weight) expected
 stands (sides file xs expected) = let r = played file xs in nodesHave r (r .plan .steps .side) expected
 stands (notKept file xs n) = let r = played file xs in eqb (r .number) 0 && eqb (r .count) n
+stands (lightest file xs v w) =
+    let r = played file xs in
+    eqb (r .number) 0 && (eqb (r .plan .lightest .node) v && eqb (r .plan .lightest .weight) w)
 stands (pair file s t w v x n) = sameAnswer (pairOf (openOf file .plan) s t) w v x n
 stands (reads z text) = same (textOf z) (rightAligned textWidth text)
 stands (refused file e place) = let o = openOf file in eqb (o .number) e && (eqb (o .place) place && zeros (o .plan))
@@ -113,12 +119,16 @@ table =
     ∷ refused (0x01 ∷ 0x00 ∷ 0x00 ∷ []) 9 2  -- P12
     -- not the paper's
     ∷ pair resortA 1 3 6 2 3 2
+    ∷ lightest resortA [] 2 6 ∷ lightest resortA (to 1 1 ∷ []) 2 4 ∷ lightest resortA (to 3 4 ∷ []) 1 8
+    ∷ lightest resortA (to 3 4 ∷ back ∷ []) 2 6 ∷ lightest (0x01 ∷ 0x00 ∷ []) [] 0 0
+    ∷ lightest (0x02 ∷ 0x00 ∷ []) [] 1 0
     ∷ parents exchanging [] (2 ∷ 0 ∷ []) ∷ weights exchanging [] (4 ∷ 1 ∷ [])
     ∷ []
 
 pub readings : allStand table ≡ true
 unfolding sum cutValue holds first leastMinCut word all every blank networkFits readGroups readNumber taken linkAt
     readLink readLinks readAll readFile moved stepped ruleBy leastCut rule keptBy keptOrLeastBy rebuiltBy rebuilt
-    reaches climb among lightestOn lightestOf sideOf answer treeFits stepsFit stackFits sound digits textOf
-    openOf changeNumber undoNumber altered changeOf undoOf pairNumber pairOf same last played stands allStand table size
+    reaches climb among lightestOn lightestOf sideOf answer treeFits stepsFit stackFits lightestAmong sound digits
+    textOf openOf changeNumber undoNumber altered changeOf undoOf pairNumber pairOf same last played stands allStand
+    table size
 readings = refl

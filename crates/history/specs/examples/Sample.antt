@@ -7,7 +7,9 @@ use lib.IntN.{pos}
 use Rattle.base.specs.Word.{holds}
 use Rattle.base.specs.Basics.{all, every, blank}
 use Rattle.network.specs.Network.{networkFits}
-use Rattle.cut_tree.specs.Path.{reaches}
+use Rattle.min_cut.specs.FirstWord.{first}
+use Rattle.cut_tree.specs.Path.{reaches, lightestOf}
+use Rattle.cut_tree.specs.LightestEdge.{lightestAmong}
 use Rattle.plan.specs.Plan.{treeFits, stepsFit, stackFits, sound}
 use Rattle.plan.specs.Calls.{changeOf, undoOf, pairOf, flowNumber, Flowed}
 use Rattle.history.specs.Machine.{change, undo, pair, flow, refusal, next, numbers, ask}
@@ -27,7 +29,8 @@ abbrev short : FlowReply
 short = record { number = 16; before = pos 7 ∷ []; behind = pos 7 ∷ [] }
 
 flowed : Flowed planA 0 1 (replicate 5 (pos 0)) 0 eight
-unfolding holds all every blank networkFits reaches treeFits stepsFit stackFits sound flowNumber
+unfolding holds all every blank networkFits reaches treeFits stepsFit stackFits first lightestOf lightestAmong sound
+    flowNumber
 flowed =
     record {
       number-is = refl;
@@ -37,7 +40,8 @@ flowed =
     }
 
 too-short : Flowed planA 0 1 (pos 7 ∷ []) 16 (pos 7 ∷ [])
-unfolding holds all every blank networkFits reaches treeFits stepsFit stackFits sound flowNumber
+unfolding holds all every blank networkFits reaches treeFits stepsFit stackFits first lightestOf lightestAmong sound
+    flowNumber
 too-short = record {
   number-is = refl;
   lawful = λ e. absurd (omega arith);

@@ -55,6 +55,7 @@ module _ (net : Network) where
         stack = refl;
         tree = refl;
         steps = refl;
+        lightest = refl;
         is-sound = sound-at net x g;
       }
 

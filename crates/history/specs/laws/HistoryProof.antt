@@ -21,8 +21,13 @@ use Rattle.network_file.specs.laws.FileLaws.{round-trip}
 use Rattle.cut_tree.specs.Rule.{rule}
 use Rattle.cut_tree.specs.RuleCutTree.{rule-cut-tree}
 use Rattle.cut_tree.specs.Path.{pairRows, answer, weightOf}
+use Rattle.cut_tree.specs.LightestEdge.{lightestEdge, NetworkCut}
+use Rattle.cut_tree.specs.LightestCut.{lightest-cut}
+use Rattle.plan.specs.KeepsLightest.{least-pair}
+use Rattle.plan.specs.laws.SoundFacts.{sound-climbs}
+use Rattle.plan.specs.laws.AnswersLaws.{pair-found}
 use Rattle.plan.specs.Plan.{noStack}
-use Rattle.plan.specs.Calls.{fresh, opened, openOf, pairNumber, pairOf, writeNumber, writeOf, writtenTo}
+use Rattle.plan.specs.Calls.{fresh, opened, openOf, pairOf, writeNumber, writeOf, writtenTo}
 use Rattle.history.specs.Machine.{flow, State, begin, refusal, next, state, numbers, padded, networkAt, stackOf}
 use Rattle.history.specs.Run.{FlowReply, Event, callsOf, numbersOf, Answered, Run, left}
 use Rattle.history.specs.History.{RightPair, RightFlow, Replies, Opens, Reopens, Claims, Demand3}
@@ -59,11 +64,7 @@ module _ (net : Network) where
   module _ (x : State) (g : Good net x) where
     pair-is : (s t : ℕ) → s < net .nodes → t < net .nodes → s ≢ t
         → pairOf (planAt net x) s t ≡ answer (rule (networkAt net (x .capacity)) .tree) (net .nodes) s t
-    unfolding pairOf pairNumber
-    pair-is s t sl tl d =
-        let z : pairNumber (planAt net x) s t ≡ 0 =
-        rw (sound-at net x g, lt-ltb s (net .nodes) sl, lt-ltb t (net .nodes) tl, ne-eqb s t d) in
-        rw z
+    pair-is s t = pair-found (planAt net x) s t (sound-at net x g)
 
     pairs-at : (s t : ℕ) → s < net .nodes → t < net .nodes → s ≢ t → RightPair (networkAt net (x .capacity)) s t (pairOf (planAt net x) s t)
     pairs-at s t sl tl d = rw (pair-is s t sl tl d) (pair-right net x g s t sl tl d)
@@ -77,6 +78,11 @@ module _ (net : Network) where
         rw (lt-ltb s (net .nodes) sl, lt-ltb t (net .nodes) tl, ne-eqb s t d, eq-eqb (net .links) (net .links) refl) in
         let n : r .number ≡ 0 = a .number ∙ z in
         (n, rw (pair-is s t sl tl d) (a .if-accepted n))
+
+    cut-at : 1 < net .nodes → NetworkCut (networkAt net (x .capacity)) (planAt net x .lightest .weight)
+    cut-at =
+        let G = networkAt net (x .capacity) in
+        lightest-cut G (rule G .tree) (rule-cut-tree G (g .within)) (sound-climbs (planAt net x) (sound-at net x g))
 
     opens : Opens (fileOf (networkAt net (x .capacity))) (planAt net x)
     unfolding openOf
@@ -93,6 +99,7 @@ module _ (net : Network) where
           network = ap (λ (v : Opening). v .plan .network) o;
           tree = ap (λ (v : Opening). v .plan .tree) o;
           steps = ap (λ (v : Opening). v .plan .steps) o;
+          lightest = ap (λ (v : Opening). v .plan .lightest) o;
           stack = ap (λ (v : Opening). v .plan .stack) o;
         }
 
@@ -135,6 +142,7 @@ module _ (net : Network) (w : WithinLimits net) where
     tree = rule (sym begin-network i) .tree;
     steps = rule (sym begin-network i) .steps;
     stack = noStack;
+    lightest = lightestEdge (net .nodes) (rule (sym begin-network i) .tree);
   }
 
   module _ (es : List Event) (h : Run (fresh net) es) where
@@ -161,6 +169,8 @@ module _ (net : Network) (w : WithinLimits net) where
           cut-tree = rule-cut-tree (networkAt net (x .capacity)) (g .within);
           pairs = pairs-at net x g;
           flows = flows-at net x g;
+          network-cut = cut-at net x g;
+          least-pair = least-pair (planAt net x) (sound-at net x g);
         }
 
     pub history-fresh : Demand3 (fresh net) es

@@ -1,5 +1,5 @@
 -- The plan that the machine's state makes: it is sound, and a change of it is the plan of the next state.
-use mathlib.Core.Path.{_≡_, sym, ap, _∙_}
+use mathlib.Core.Path.{_≡_, refl, sym, ap, _∙_}
 use mathlib.Core.Bool.{true}
 use mathlib.Core.List.{List}
 use Prim.Native.Nat.{ℕ, _≤_, _<_}
@@ -13,6 +13,8 @@ use Rattle.network.specs.declared.Network.{Network}
 use Rattle.cut_tree.specs.Rule.{rule}
 use Rattle.cut_tree.specs.Rebuild.{rebuilt, notKept}
 use Rattle.cut_tree.specs.Rebuilds.{rebuilt-tree, rebuilt-steps, rebuilt-count, rebuilt-most}
+use Rattle.cut_tree.specs.LightestEdge.{lightestEdge}
+use Rattle.cut_tree.specs.laws.EdgeLaws.{equal-edges}
 use Rattle.plan.specs.laws.ShapeLaws.{tree-fits, steps-fit}
 use Rattle.plan.specs.Plan.{maxDepth, sound, planOf}
 use Rattle.plan.specs.Calls.{altered}
@@ -40,7 +42,9 @@ module _ (net : Network) (x : State) (g : Good net x) where
   sound-at =
       let w = g .within in
       let G = networkAt net (x .capacity) in
-      test (w .fits & tree-fits G (w .fits) & steps-fit G (w .fits) & stack-fits (net .links) (x .stack) (g .entries) (g .deep) & none)
+      let e = lightestEdge (net .nodes) (rule G .tree) in
+      test (w .fits & tree-fits G (w .fits) & equal-edges e e refl & steps-fit G (w .fits)
+      & stack-fits (net .links) (x .stack) (g .entries) (g .deep) & none)
 
   -- ---- link k is set to c
   module _ (k c : ℕ) (kl : k < net .links) (cl : c ≤ maxCapacity) where
@@ -55,11 +59,13 @@ module _ (net : Network) (x : State) (g : Good net x) where
     unfolding altered
     altered-plan stack entries e =
         let G = networkAt net (x .capacity) in
+        let tree = rebuilt-tree G (g .within) k c kl ∙ ap (λ (H : Network). rule H .tree) (sym set-at) in
         λ i. record {
           network = sym set-at i;
-          tree = (rebuilt-tree G (g .within) k c kl ∙ ap (λ (H : Network). rule H .tree) (sym set-at)) i;
+          tree = tree i;
           steps = (rebuilt-steps G (g .within) k c kl ∙ ap (λ (H : Network). rule H .steps) (sym set-at)) i;
           stack = e i;
+          lightest = lightestEdge (net .nodes) (tree i);
         }
 
     pub altered-count : (stack : Stack) → RightCount (networkAt net (x .capacity)) k c (altered (planAt net x) k c stack .count)

@@ -15,6 +15,7 @@ use Rattle.network_file.specs.Number.{readGroups, readNumber}
 use Rattle.network_file.specs.Reading.{taken, linkAt, readLink, readLinks, readAll, readFile}
 use Rattle.cut_tree.specs.Rule.{moved, stepped, ruleBy, leastCut, rule}
 use Rattle.cut_tree.specs.Path.{reaches, climb, lightestOf, lightestOn, sideOf, answer}
+use Rattle.cut_tree.specs.LightestEdge.{lightestAmong}
 use Rattle.text.specs.Text.{digits}
 use Rattle.plan.specs.Plan.{treeFits, stepsFit, stackFits, sound}
 use Rattle.plan.specs.Calls.{openOf, pairNumber, pairOf}
@@ -41,8 +42,8 @@ listing-a : listingOf resortA ≡
     []
 unfolding sum cutValue holds first leastMinCut word all every blank networkFits readGroups readNumber taken linkAt
     readLink readLinks readAll readFile moved stepped ruleBy leastCut rule reaches climb among lightestOn lightestOf
-    sideOf answer size digits treeFits stepsFit stackFits sound openOf pairNumber pairOf decimalsOf treeLine treeLines
-    pairLine pairsOf pairLines planLines listingOf
+    sideOf answer size digits treeFits stepsFit stackFits lightestAmong sound openOf pairNumber pairOf decimalsOf
+    treeLine treeLines pairLine pairsOf pairLines planLines listingOf
 listing-a = refl
 
 -- one node prints nothing

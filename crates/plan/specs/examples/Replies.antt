@@ -13,6 +13,7 @@ use Rattle.network.specs.Network.{networkFits}
 use Rattle.network_file.specs.Number.{groupBytes, numberBytes}
 use Rattle.network_file.specs.Writing.{linkBytes, fileOf}
 use Rattle.cut_tree.specs.Path.{reaches, climb, lightestOf, lightestOn, sideOf, answer}
+use Rattle.cut_tree.specs.LightestEdge.{lightestAmong}
 use Rattle.text.specs.Text.{digits, textOf}
 use Rattle.plan.specs.Plan.{treeFits, stepsFit, stackFits, sound}
 use Rattle.plan.specs.Calls.{headroomNumber, headroomOf, writeNumber, writeOf, writtenTo}
@@ -22,7 +23,7 @@ use Rattle.plan.specs.examples.ResortA.{resortA, planA}
 pub short : headroomOf planA 3 1 11
     ≡ record { number = 0; value = negsuc 4; text = 32 ∷ 32 ∷ 32 ∷ 32 ∷ 32 ∷ 32 ∷ 32 ∷ 32 ∷ 45 ∷ 48 ∷ 46 ∷ 53 ∷ [] }
 unfolding sum holds first word all every blank networkFits reaches climb among lightestOn lightestOf sideOf answer
-    size digits textOf treeFits stepsFit stackFits sound headroomNumber headroomOf
+    size digits textOf treeFits lightestAmong stepsFit stackFits sound headroomNumber headroomOf
 short = refl
 
 -- the highest demand, and one above it
@@ -34,18 +35,18 @@ pub highest : (headroomOf planA 0 1 1000000000
     })
     × (headroomOf planA 0 1 1000000001 ≡ record { number = 17; value = pos 0; text = replicate 12 32 })
 unfolding sum holds first word all every blank networkFits reaches climb among lightestOn lightestOf sideOf answer
-    size digits textOf treeFits stepsFit stackFits sound headroomNumber headroomOf
+    size digits textOf treeFits lightestAmong stepsFit stackFits sound headroomNumber headroomOf
 highest = (refl, refl)
 
 -- written into a buffer of 20, and into one of 16
 pub written : (writeOf planA 20 ≡ record { number = 0; length = 17 })
     × (writtenTo planA (replicate 20 7) ≡ resortA ++ 7 ∷ 7 ∷ 7 ∷ [])
 unfolding holds all every blank networkFits groupBytes numberBytes linkBytes fileOf reaches treeFits stepsFit stackFits
-    sound writeNumber writeOf writtenTo
+    sound first lightestOf lightestAmong writeNumber writeOf writtenTo
 written = (refl, refl)
 
 pub too-long : (writeOf planA 16 ≡ record { number = 18; length = 0 })
     × (writtenTo planA (replicate 16 7) ≡ replicate 16 7)
 unfolding holds all every blank networkFits groupBytes numberBytes linkBytes fileOf reaches treeFits stepsFit stackFits
-    sound writeNumber writeOf writtenTo
+    sound first lightestOf lightestAmong writeNumber writeOf writtenTo
 too-long = (refl, refl)

@@ -12,9 +12,11 @@ use Rattle.network.specs.declared.Network.{Network}
 use Rattle.network_file.specs.Number.{readGroups, readNumber}
 use Rattle.network_file.specs.Reading.{taken, linkAt, readLink, readLinks, readAll, readFile}
 use Rattle.cut_tree.specs.Rule.{moved, stepped, ruleBy, leastCut, rule}
+use Rattle.cut_tree.specs.Path.{lightestOf}
+use Rattle.cut_tree.specs.LightestEdge.{lightestAmong}
 use Rattle.cut_tree.specs.declared.Tree.{Tree}
 use Rattle.cut_tree.specs.declared.Steps.{Steps}
-use Rattle.plan.specs.Plan.{noStack, planOf}
+use Rattle.plan.specs.Plan.{noStack, planWith}
 use Rattle.plan.specs.Calls.{openOf}
 use Rattle.plan.specs.declared.Plan.{Plan}
 
@@ -48,10 +50,11 @@ stepsA =
       value = array maxNodes (0 ∷ 8 ∷ 6 ∷ 6 ∷ []);
     }
 
+-- the edges of 2 and 3 are equally light
 abbrev pub planA : Plan
-planA = planOf networkA treeA stepsA noStack
+planA = planWith networkA treeA stepsA noStack (record { node = 2; weight = 6 })
 
 pub opening-A : openOf resortA ≡ record { number = 0; place = 0; plan = planA }
 unfolding sum cutValue holds first leastMinCut readGroups readNumber taken linkAt readLink readLinks readAll readFile
-    moved stepped ruleBy leastCut rule openOf
+    moved stepped ruleBy leastCut rule lightestOf lightestAmong openOf
 opening-A = refl

@@ -5,16 +5,22 @@ use mathlib.Core.Path.{_≡_, refl}
 use mathlib.Core.Bool.{Bool, true, not, _&&_}
 use mathlib.Core.List.{List, [], _∷_}
 use lib.ListN.{set, replicate}
+use lib.Dec.{eqb}
 use Rattle.base.specs.Word.{holds}
 use Rattle.base.specs.Basics.{all, every, blank}
 use Rattle.network.specs.Limits.{maxNodes, maxLinks}
 use Rattle.network.specs.Network.{networkFits}
 use Rattle.network.specs.declared.Network.{Network}
-use Rattle.cut_tree.specs.Path.{reaches}
+use Rattle.min_cut.specs.FirstWord.{first}
+use Rattle.network_file.specs.Writing.{maxFile}
+use Rattle.cut_tree.specs.Path.{reaches, lightestOf, numberOf}
+use Rattle.cut_tree.specs.LightestEdge.{lightestAmong}
 use Rattle.cut_tree.specs.Rule.{noTree}
 use Rattle.cut_tree.specs.declared.Tree.{Tree}
 use Rattle.cut_tree.specs.declared.Steps.{Steps}
-use Rattle.plan.specs.Plan.{treeFits, stepsFit, stackFits, sound, noStack, push, noPlan, planOf}
+use Rattle.plan.specs.Plan.{treeFits, stepsFit, stackFits, sound, noStack, push, noPlan, planOf, planWith}
+use Rattle.plan.specs.Calls.{changeNumber, changeOf, undoNumber, undoOf, pairNumber, pairOf, flowNumber}
+use Rattle.plan.specs.Calls.{headroomNumber, headroomOf, writeNumber, writeOf}
 use Rattle.plan.specs.examples.ResortA.{array, networkA, treeA, stepsA, planA}
 use Rattle.plan.specs.declared.Stack.{Stack}
 use Rattle.plan.specs.declared.Plan.{Plan}
@@ -56,6 +62,10 @@ withValues value = withSteps (record { pivot = stepsA .pivot; side = stepsA .sid
 abbrev withStack : Stack → Plan
 withStack stack = planOf networkA treeA stepsA stack
 
+-- resort A's plan with another edge for its lightest, which is that of node 2 with weight 6
+abbrev withLightest : (node weight : ℕ) → Plan
+withLightest node weight = planWith networkA treeA stepsA noStack (record { node = node; weight = weight })
+
 -- link 1, of capacity 3 before
 abbrev once : Stack
 once = push noStack 1 3
@@ -69,43 +79,37 @@ doubling (suc count) x = x ∷ doubling count (2 * x)
 -- n nodes and no link: each step cuts its own node off from node 0
 abbrev apart : ℕ → Plan
 apart n =
-    record {
-      network = record {
-        nodes = n;
-        links = 0;
-        a = replicate maxLinks 0;
-        b = replicate maxLinks 0;
-        capacity = replicate maxLinks 0;
-      };
-      tree = noTree;
-      steps = record {
-        pivot = replicate maxNodes 0;
-        side = array maxNodes (set (doubling n 1) 0 0);
-        value = replicate maxNodes 0;
-      };
-      stack = noStack;
-    }
+    planOf (record {
+      nodes = n;
+      links = 0;
+      a = replicate maxLinks 0;
+      b = replicate maxLinks 0;
+      capacity = replicate maxLinks 0;
+    }) noTree (record {
+      pivot = replicate maxNodes 0;
+      side = array maxNodes (set (doubling n 1) 0 0);
+      value = replicate maxNodes 0;
+    }) noStack
+
+-- one node, with an edge all the same
+abbrev aloneWith : (node weight : ℕ) → Plan
+aloneWith node weight =
+    planWith (apart 1 .network) noTree (apart 1 .steps) noStack (record { node = node; weight = weight })
 
 -- two nodes and m links between them
 abbrev joined : ℕ → Plan
 joined m =
-    record {
-      network = record {
-        nodes = 2;
-        links = m;
-        a = array maxLinks (replicate m 0);
-        b = array maxLinks
-            (replicate m 1);
-        capacity = array maxLinks (replicate m 0);
-      };
-      tree = noTree;
-      steps = record {
-        pivot = replicate maxNodes 0;
-        side = set (replicate maxNodes 0) 1 2;
-        value = replicate maxNodes 0;
-      };
-      stack = noStack;
-    }
+    planOf (record {
+      nodes = 2;
+      links = m;
+      a = array maxLinks (replicate m 0);
+      b = array maxLinks (replicate m 1);
+      capacity = array maxLinks (replicate m 0);
+    }) noTree (record {
+      pivot = replicate maxNodes 0;
+      side = set (replicate maxNodes 0) 1 2;
+      value = replicate maxNodes 0;
+    }) noStack
 
 -- ---- sound plans, at the limits too
 unfoldable pub soundPlans : List Plan
@@ -154,6 +158,13 @@ brokenPlans =
     ∷ withParents (set (treeA .parent) 1 4)
     ∷ []
 
+-- the lightest edge is the tree's: no other node with its weight, no other weight at its node, no later node as light,
+-- not node 0; and with one node both are 0
+abbrev pub otherEdges : List Plan
+otherEdges =
+    withLightest 1 6 ∷ withLightest 2 5 ∷ withLightest 2 8 ∷ withLightest 3 6 ∷ withLightest 1 8 ∷ withLightest 0 0
+    ∷ aloneWith 1 0 ∷ aloneWith 0 1 ∷ []
+
 unfoldable pub allSound : List Plan → Bool
 allSound [] = true
 allSound (p ∷ ps) = sound p && allSound ps
@@ -162,7 +173,32 @@ unfoldable pub noneSound : List Plan → Bool
 noneSound [] = true
 noneSound (p ∷ ps) = not (sound p) && noneSound ps
 
+-- and these break that clause alone
+unfoldable pub otherwiseSound : List Plan → Bool
+otherwiseSound [] = true
+otherwiseSound (p ∷ ps) = sound (planOf (p .network) (p .tree) (p .steps) (p .stack)) && otherwiseSound ps
+
+-- every call refuses them with 19
+unfoldable pub allRefuse : List Plan → Bool
+allRefuse [] = true
+allRefuse (p ∷ ps) =
+    every (
+    eqb (changeOf p 0 1 .number) 19
+    ∷ eqb (undoOf p .number) 19
+    ∷ eqb (numberOf (pairOf p 0 1)) 19
+    ∷ eqb (flowNumber p 0 1 (p .network .links)) 19
+    ∷ eqb (headroomOf p 0 1 0 .number) 19
+    ∷ eqb (writeOf p maxFile .number) 19
+    ∷ [])
+    && allRefuse ps
+
 pub examples : (allSound soundPlans ≡ true) × (noneSound brokenPlans ≡ true)
-unfolding holds all every blank networkFits reaches treeFits stepsFit stackFits sound doubling soundPlans brokenPlans
-    allSound noneSound
+unfolding holds all every blank networkFits reaches treeFits first lightestOf lightestAmong stepsFit stackFits sound
+    doubling soundPlans brokenPlans allSound noneSound
 examples = (refl, refl)
+
+pub other-edges : (noneSound otherEdges ≡ true) × (otherwiseSound otherEdges ≡ true) × (allRefuse otherEdges ≡ true)
+unfolding holds all every blank networkFits reaches treeFits first lightestOf lightestAmong stepsFit stackFits sound
+    doubling noneSound otherwiseSound allRefuse changeNumber changeOf undoNumber undoOf pairNumber pairOf flowNumber
+    headroomNumber headroomOf writeNumber writeOf
+other-edges = (refl, refl, refl)

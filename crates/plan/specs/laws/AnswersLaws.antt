@@ -1,12 +1,13 @@
 -- Pair and headroom: one law for each way through the code.
-use mathlib.Core.Path.{_≡_, refl, ap}
+use mathlib.Core.Path.{_≡_, refl, ap, _∙_}
+use mathlib.Core.Logic.{_≢_}
 use mathlib.Core.Bool.{Bool, true, false, not, _&&_, and-comm}
 use mathlib.Core.List.{List, [], _∷_}
 use Prim.Native.Nat.{ℕ, _≤_, _<_}
 use native.Mathlib.Omega.{arith}
 use lib.Dec.{ltb, eqb}
 use lib.IntN.{pos, _-ℤ_}
-use borrow.Author.Tests.{lt-ltb, le-ltb, not-false}
+use borrow.Author.Tests.{lt-ltb, le-ltb, ne-eqb, not-false}
 use Rattle.base.specs.laws.TestLaws.{eqb-turned}
 use Rattle.base.specs.Checks.{Row, row, check, chain, accepted}
 use Rattle.network.specs.Limits.{maxValue}
@@ -28,6 +29,14 @@ module _ (p : Plan) (s t : ℕ) where
   pub pair-query : sound p ≡ true → pairOf p s t ≡ queryOf (p .tree) (p .network .nodes) s t
   unfolding pairOf pairNumber queryOf
   pair-query e = rw e
+
+  -- of two nodes of a sound plan
+  pub pair-found : sound p ≡ true → s < p .network .nodes → t < p .network .nodes → s ≢ t
+      → pairOf p s t ≡ answer (p .tree) (p .network .nodes) s t
+  unfolding queryOf
+  pair-found e sl tl d =
+      let n = p .network .nodes in
+      pair-query e ∙ rw (lt-ltb s n sl, lt-ltb t n tl, ne-eqb s t d)
 
 -- ---- headroom, by the pair's answer: the rows before its own are the pair's
 abbrev rows : Bool → Bool → Bool → ℕ → ℕ

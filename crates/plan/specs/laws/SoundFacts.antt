@@ -12,6 +12,8 @@ use Rattle.network.specs.Limits.{maxCapacity, maxValue}
 use Rattle.network.specs.Network.{networkFits}
 use Rattle.network.specs.laws.NetworkLaws.{nodes-le}
 use Rattle.cut_tree.specs.Path.{maxClimb, reaches, Climbs}
+use Rattle.cut_tree.specs.LightestEdge.{lightestEdge}
+use Rattle.cut_tree.specs.laws.EdgeLaws.{edges-equal}
 use Rattle.cut_tree.specs.declared.Tree.{Tree}
 use Rattle.plan.specs.Plan.{maxDepth, treeFits, entryFits, stackFits, sound}
 use Rattle.plan.specs.declared.Plan.{Plan}
@@ -51,12 +53,17 @@ module _ (p : Plan) (e : sound p ≡ true) where
         rooted = λ i l. all-at n (reaches (p .tree .parent) maxClimb) (head (rest (rest (rest (rest (shown _ tree-fits)))))) i l;
       }
 
+  -- the edge that the plan holds
+  pub sound-lightest : p .lightest ≡ lightestEdge (p .network .nodes) (p .tree)
+  unfolding sound
+  sound-lightest = edges-equal _ _ (head (rest (rest (shown _ e))))
+
   pub sound-weight : (i : ℕ) → at (p .tree .weight) i ≤ maxValue
   sound-weight = tree-weight (p .network .nodes) (p .tree) tree-fits
 
   stack-fits : stackFits (p .network .links) (p .stack) ≡ true
   unfolding sound
-  stack-fits = head (rest (rest (rest (shown _ e))))
+  stack-fits = head (rest (rest (rest (rest (shown _ e)))))
 
   pub sound-depth : p .stack .depth ≤ maxDepth
   unfolding stackFits
