@@ -74,6 +74,12 @@ inline uint32_t change_and_undo(Plan &plan, Args a)
 
 inline uint32_t pair(Plan &plan, Args a) { return pamzolit_pair(&plan, a.first, a.second, &stored.pair); }
 
+// of nodes 0 and 1
+inline uint32_t preview(Plan &plan, Args a)
+{
+    return pamzolit_preview(&plan, a.first, a.second, 0, 1, &stored.pair, &stored.count);
+}
+
 inline uint32_t headroom(Plan &plan, Args a)
 {
     return pamzolit_headroom(&plan, a.first, a.second, 500, &stored.headroom);

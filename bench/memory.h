@@ -34,12 +34,13 @@ inline std::vector<Args> all_ends(const Net &net)
 struct Use { const char *name; size_t bytes; };
 
 // The stack that calls of each kind use at most, beside that of a thread that does nothing, to within a hundred bytes
-// (who makes the call has a frame too): of 60 changes and their undos, and of all pairs of nodes.
+// (who makes the call has a frame too): of 60 changes and their undos, 60 previews, and all pairs of nodes.
 inline std::vector<Use> stacks(const Net &net)
 {
     struct { const char *name; Call *made; std::vector<Args> list; } all[] = {
         {"change", call::change, drawn(net, 60, new_capacity)},
         {"undo", call::undo, drawn(net, 60, nothing)},
+        {"preview", call::preview, drawn(net, 60, new_capacity)},
         {"pair", call::pair, all_ends(net)},
         {"headroom", call::headroom, all_ends(net)},
         {"flow", call::flow, all_ends(net)},

@@ -40,6 +40,7 @@ const Kind kinds[] = {
     {"change", call::change, 1, 50, new_capacity},
     {"undo", call::undo, 1, 50, new_capacity, PAMZOLIT_ACCEPTED, call::change},
     {"change or undo, in turn", call::change_and_undo, 2, 50, new_capacity},
+    {"preview", call::preview, 1, 50, new_capacity},
     {"pair", call::pair, 1, 500, ends},
     {"headroom", call::headroom, 1, 500, ends},
     {"flow", call::flow, 1, 500, ends},

@@ -25,7 +25,7 @@
  *     one (of length 0 it may point anywhere but to NULL);
  *   - what a call writes does not overlap anything else that is handed to it;
  *   - nothing else writes what a call reads while it lasts, nor reads what it writes. A plan that is only asked (pair,
- *     headroom, flow, write) may be shared among threads;
+ *     preview, headroom, flow, write) may be shared among threads;
  *   - size_t has 64 bits: the assertions at the end test it, and the layout.
  *
  * Capacities, weights, demands and flows are tenths of a megabit per second. A set of nodes is a word, bit i for node
@@ -61,13 +61,13 @@ enum pamzolit_number {
     PAMZOLIT_EQUAL_ENDS = 7,        /* a link's ends are equal */
     PAMZOLIT_LINK_TOO_LARGE = 8,    /* a link's capacity is above 1,000,000 */
     PAMZOLIT_BYTES_FOLLOW = 9,      /* bytes follow the last link */
-    /* of a change */
+    /* of a change, a preview */
     PAMZOLIT_NO_SUCH_LINK = 10,     /* the link is not below m */
     PAMZOLIT_CAPACITY_TOO_LARGE = 11, /* the capacity is above 1,000,000 */
     PAMZOLIT_STACK_FULL = 12,       /* 64 changes can be undone already */
     /* of an undo */
     PAMZOLIT_NOTHING_TO_UNDO = 13,
-    /* of a pair, a headroom, a flow */
+    /* of a pair, a preview, a headroom, a flow */
     PAMZOLIT_NO_SUCH_NODE = 14,     /* s or t is not below n */
     PAMZOLIT_SAME_NODE = 15,        /* s equals t */
     PAMZOLIT_FLOW_LENGTH = 16,      /* a flow's buffer has not m places */
@@ -167,7 +167,14 @@ uint32_t pamzolit_undo(struct pamzolit_plan *plan, uint32_t *count);
  * returned. */
 uint32_t pamzolit_pair(const struct pamzolit_plan *plan, size_t s, size_t t, struct pamzolit_pair_reply *reply);
 
-/* What a demand leaves of that limit (19, 14, 15, 17). reply->number is what is returned. */
+/* What pamzolit_change followed by pamzolit_pair would give on a copy of the plan, which is itself left as it was: the
+ * pair's reply under that capacity, and the change's count. Refused as the change is, also where the stack is full, and
+ * then as the pair is (19, 10, 11, 12, 14, 15). reply->number is what is returned; beside a refusal all else in the
+ * reply is 0, and *count too. */
+uint32_t pamzolit_preview(const struct pamzolit_plan *plan, size_t link, uint32_t capacity, size_t s, size_t t,
+                          struct pamzolit_pair_reply *reply, uint32_t *count);
+
+/* What a demand leaves of the limit between s and t (19, 14, 15, 17). reply->number is what is returned. */
 uint32_t pamzolit_headroom(const struct pamzolit_plan *plan, size_t s, size_t t, uint32_t demand,
                            struct pamzolit_headroom_reply *reply);
 

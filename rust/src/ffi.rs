@@ -92,6 +92,15 @@ unsafe extern "C" {
     fn pamzolit_change(plan: &mut Plan, link: usize, capacity: u32, count: &mut u32) -> u32;
     fn pamzolit_undo(plan: &mut Plan, count: &mut u32) -> u32;
     fn pamzolit_pair(plan: &Plan, s: usize, t: usize, reply: &mut PairReply) -> u32;
+    fn pamzolit_preview(
+        plan: &Plan,
+        link: usize,
+        capacity: u32,
+        s: usize,
+        t: usize,
+        reply: &mut PairReply,
+        count: &mut u32,
+    ) -> u32;
     fn pamzolit_headroom(plan: &Plan, s: usize, t: usize, demand: u32, reply: &mut HeadroomReply) -> u32;
     fn pamzolit_flow(plan: &Plan, s: usize, t: usize, out: *mut i32, out_length: usize) -> u32;
     fn pamzolit_write(plan: &Plan, out: *mut u8, out_length: usize, used: &mut usize) -> u32;
@@ -140,6 +149,14 @@ pub fn pair(plan: &Plan, s: usize, t: usize) -> Result<PairReply, u32> {
     // SAFETY: the plan is only read, the reply is borrowed for the call alone.
     let number = unsafe { pamzolit_pair(plan, s, t, &mut reply) };
     accepted(number, reply)
+}
+
+pub fn preview(plan: &Plan, link: usize, capacity: u32, s: usize, t: usize) -> Result<(PairReply, u32), u32> {
+    let mut reply = PairReply::default();
+    let mut count = 0;
+    // SAFETY: the plan is only read, reply and count are borrowed for the call alone.
+    let number = unsafe { pamzolit_preview(plan, link, capacity, s, t, &mut reply, &mut count) };
+    accepted(number, (reply, count))
 }
 
 pub fn headroom(plan: &Plan, s: usize, t: usize, demand: u32) -> Result<HeadroomReply, u32> {

@@ -1,7 +1,7 @@
 //! The link plan: how much traffic can run between any two nodes of a network, and which links set that limit.
 //!
 //! A [`Plan`] is opened from a resort's network file and then asked all day. It follows changed capacities and
-//! takes them back:
+//! takes them back, and shows beforehand what a change would give:
 //!
 //! ```
 //! use pamzolit::{Link, Node, Plan};
@@ -14,6 +14,8 @@
 //! # assert_eq!(plan.headroom(Node(1), Node(3), booked)?.to_string(), "-0.5");
 //! println!("limited by what leaves {}", plan.pair(Node(1), Node(3))?.side);
 //! # assert_eq!(plan.pair(Node(1), Node(3))?.side.to_string(), "{0, 1}");
+//! println!("limit with link 3 at 1.2: {} tenths", plan.preview(Link(3), 12, Node(1), Node(3))?.pair.weight);
+//! # assert_eq!(plan.preview(Link(3), 12, Node(1), Node(3))?.pair.weight, 8);
 //! plan.change(Link(3), 12)?;
 //! println!("with link 3 at 1.2: {}", plan.headroom(Node(1), Node(3), booked)?);
 //! # assert_eq!(plan.headroom(Node(1), Node(3), booked)?.to_string(), "-0.3");
@@ -33,9 +35,11 @@
 //!   is the value of a minimum cut, and [`Plan::flow`] gives a flow with that total. A pair shows the same edge of
 //!   that tree from both ends, and its two sides are each other's complement. [`Plan::lightest`] is the lightest of
 //!   all its edges: no pair has a smaller limit.
-//! - After any list of changes, undos, pairs and flows, refused ones among them, the plan is as one opened fresh on
-//!   the file that [`Plan::write`] gives, its capacities are the history's, and every pair's limit is exact. A
-//!   `Plan` has no other way to come about, so this holds of every one.
+//! - After any list of changes, undos, pairs, flows and previews, refused ones among them, the plan is as one opened
+//!   fresh on the file that [`Plan::write`] gives, its capacities are the history's, and every pair's limit is exact.
+//!   A `Plan` has no other way to come about, so this holds of every one.
+//! - [`Plan::preview`] gives what a change followed by a pair gives on a copy. Wherever it stands in such a list, the
+//!   plan and all other replies are as without it.
 //!
 //! # What is not
 //!
@@ -55,7 +59,7 @@ mod side;
 
 pub use plan::Plan;
 pub use refusal::{FileError, Refusal};
-pub use reply::{Change, Headroom, LinkState, Pair, Step, TreeEdge};
+pub use reply::{Change, Headroom, LinkState, Pair, Preview, Step, TreeEdge};
 pub use side::{Link, Node, Nodes, Side};
 
 /// The most nodes of a network.
@@ -100,12 +104,13 @@ pub const DEMAND_MAX: u32 = 1_000_000_000;
 /// The most changes that can be undone.
 ///
 /// ```
-/// # use pamzolit::{CHANGES_MAX, Link, Plan, Refusal};
+/// # use pamzolit::{CHANGES_MAX, Link, Node, Plan, Refusal};
 /// let mut plan = Plan::open(&[2, 1, 0, 1, 6])?;
 /// for capacity in 0..CHANGES_MAX {
 ///     plan.change(Link(0), capacity as u32)?;
 /// }
 /// assert_eq!(plan.change(Link(0), 0), Err(Refusal::StackFull));
+/// assert_eq!(plan.preview(Link(0), 0, Node(0), Node(1)), Err(Refusal::StackFull));
 /// # Ok::<(), Box<dyn std::error::Error>>(())
 /// ```
 pub const CHANGES_MAX: usize = 64;

@@ -1,6 +1,6 @@
 //! The plan of a network.
 use crate::ffi;
-use crate::reply::{Change, Headroom, LinkState, Pair, Step, TreeEdge};
+use crate::reply::{Change, Headroom, LinkState, Pair, Preview, Step, TreeEdge};
 use crate::side::{Link, Node, Side};
 use crate::{FILE_MAX, FileError, Refusal};
 use std::fmt;
@@ -104,6 +104,33 @@ impl Plan {
     /// ```
     pub fn pair(&self, s: Node, t: Node) -> Result<Pair, Refusal> {
         ffi::pair(&self.held, s.0, t.0).map(Pair::from).map_err(Refusal::new)
+    }
+
+    /// What a [change](Plan::change) followed by a [pair](Plan::pair) would give: one pair under a capacity that is
+    /// tried first. The plan is left as it is.
+    ///
+    /// Refused as the change is, also with [`StackFull`](Refusal::StackFull), and then as the pair is.
+    ///
+    /// ```
+    /// use pamzolit::{Link, Node, Plan, Refusal};
+    ///
+    /// // resort A of document 01: with 4 tenths for link 3 every edge of the tree has 8
+    /// let mut plan = Plan::open(&[4, 5, 0, 1, 5, 1, 2, 3, 2, 3, 4, 0, 3, 2, 0, 2, 1])?;
+    /// let first = plan.clone();
+    /// let preview = plan.preview(Link(3), 4, Node(1), Node(3))?;
+    /// assert_eq!((preview.pair.weight, preview.pair.node, preview.count), (8, Node(1), 2));
+    /// assert!(plan == first);
+    ///
+    /// // the change's refusals come before the pair's
+    /// assert_eq!(plan.preview(Link(5), 4, Node(1), Node(1)), Err(Refusal::NoSuchLink));
+    /// assert_eq!(plan.preview(Link(3), 4, Node(1), Node(1)), Err(Refusal::SameNode));
+    ///
+    /// assert_eq!(plan.change(Link(3), 4), Ok(preview.count));
+    /// assert_eq!(plan.pair(Node(1), Node(3)), Ok(preview.pair));
+    /// # Ok::<(), Box<dyn std::error::Error>>(())
+    /// ```
+    pub fn preview(&self, link: Link, capacity: u32, s: Node, t: Node) -> Result<Preview, Refusal> {
+        ffi::preview(&self.held, link.0, capacity, s.0, t.0).map(Preview::from).map_err(Refusal::new)
     }
 
     /// What a demand, in tenths of a megabit per second, leaves of the limit between two nodes.

@@ -37,6 +37,32 @@ impl From<ffi::PairReply> for Pair {
     }
 }
 
+/// What a change followed by a pair would give, the plan being left as it is.
+///
+/// ```
+/// use pamzolit::{Link, Node, Plan};
+///
+/// // resort A of document 01: link 1 with 1 tenth
+/// let plan = Plan::open(&[4, 5, 0, 1, 5, 1, 2, 3, 2, 3, 4, 0, 3, 2, 0, 2, 1])?;
+/// let preview = plan.preview(Link(1), 1, Node(3), Node(1))?;
+/// assert_eq!((preview.pair.weight, preview.pair.node, preview.count), (4, Node(2), 1));
+/// assert_eq!(plan.pair(Node(3), Node(1))?.weight, 6);
+/// # Ok::<(), Box<dyn std::error::Error>>(())
+/// ```
+#[derive(Clone, Copy, Debug, PartialEq, Eq, Hash)]
+pub struct Preview {
+    /// The limit between the two nodes under that capacity, and what sets it.
+    pub pair: Pair,
+    /// How many steps of the tree the change would not keep.
+    pub count: u32,
+}
+
+impl From<(ffi::PairReply, u32)> for Preview {
+    fn from((reply, count): (ffi::PairReply, u32)) -> Preview {
+        Preview { pair: reply.into(), count }
+    }
+}
+
 /// What a demand leaves of the limit between two nodes: below zero, that much is short.
 ///
 /// It shows as megabits with one digit of tenths, as the gate does; a width aligns it.

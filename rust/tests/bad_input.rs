@@ -6,6 +6,7 @@ mod model;
 mod random;
 use pamzolit::{FileError, Link, Node, Plan, Refusal, Side};
 use random::Random;
+use std::hint::black_box;
 
 const NUMBERS: [usize; 14] = [0, 1, 2, 3, 4, 5, 63, 64, 255, 256, 65_536, 1 << 32, isize::MAX as usize, usize::MAX];
 const WORDS: [u32; 9] = [0, 1, 999_999, 1_000_000, 1_000_001, 1_000_000_000, 1_000_000_001, u32::MAX - 1, u32::MAX];
@@ -15,6 +16,17 @@ fn plans() -> Vec<Plan> {
     let files: [&[u8]; 5] =
         [&[1, 0], &[2, 0], &[2, 1, 0, 1, 5], &[4, 5, 0, 1, 5, 1, 2, 3, 2, 3, 4, 0, 3, 2, 0, 2, 1], &longest];
     files.iter().map(|file| Plan::open(file).unwrap()).collect()
+}
+
+fn full_plan() -> Plan {
+    let mut plan = Plan::open(&[4, 5, 0, 1, 5, 1, 2, 3, 2, 3, 4, 0, 3, 2, 0, 2, 1]).unwrap();
+    (0..64).for_each(|capacity| assert!(plan.change(Link(1), capacity).is_ok()));
+    plan
+}
+
+fn refusal_of_change(plan: &Plan, link: usize, capacity: u32) -> Option<u32> {
+    let rows = [(10, link >= plan.link_count()), (11, capacity > 1_000_000), (12, plan.changes().len() == 64)];
+    rows.into_iter().find(|row| row.1).map(|row| row.0)
 }
 
 fn refusal_of_pair(plan: &Plan, s: usize, t: usize) -> Option<u32> {
@@ -53,11 +65,30 @@ fn links_and_capacities_out_of_range() {
             assert_eq!(plan.link(Link(k)).is_some(), k < plan.link_count());
             for capacity in WORDS {
                 let mut changed = plan.clone();
-                let right = if k >= plan.link_count() { Some(10) } else { (capacity > 1_000_000).then_some(11) };
+                let right = refusal_of_change(&plan, k, capacity);
                 assert_eq!(refusal(changed.change(Link(k), capacity)), right);
                 assert!(right.is_none() || changed == plan);
                 assert_eq!(refusal(changed.undo()), right.and(Some(13)));
                 assert!(changed == plan);
+            }
+        }
+    }
+}
+
+#[test]
+fn previews_out_of_range() {
+    for plan in plans().into_iter().chain([full_plan()]) {
+        let first = black_box(plan.clone());
+        for k in NUMBERS {
+            for capacity in WORDS {
+                let of_change = refusal_of_change(&plan, k, capacity);
+                for s in NUMBERS {
+                    for t in NUMBERS {
+                        let right = of_change.or(refusal_of_pair(&plan, s, t));
+                        assert_eq!(refusal(plan.preview(Link(k), capacity, Node(s), Node(t))), right);
+                    }
+                }
+                assert!(*black_box(&plan) == first);
             }
         }
     }
@@ -129,7 +160,12 @@ fn a_plan_may_be_shared() {
     let plan = Plan::open(&[2, 1, 0, 1, 5]).unwrap();
     std::thread::scope(|threads| {
         for _ in 0..4 {
-            threads.spawn(|| (0..1000).for_each(|_| assert_eq!(plan.pair(Node(0), Node(1)).unwrap().weight, 5)));
+            threads.spawn(|| {
+                for capacity in 0..1000 {
+                    assert_eq!(plan.preview(Link(0), capacity, Node(0), Node(1)).unwrap().pair.weight, capacity);
+                    assert_eq!(plan.pair(Node(0), Node(1)).unwrap().weight, 5);
+                }
+            });
         }
     });
 }

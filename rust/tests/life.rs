@@ -7,6 +7,9 @@ use std::fmt::Write;
 
 const RESORT_A: [u8; 17] = [4, 5, 0, 1, 5, 1, 2, 3, 2, 3, 4, 0, 3, 2, 0, 2, 1];
 
+/// Links that are none, and capacities that none may have.
+const NO_CHANGES: [(usize, u32); 4] = [(5, 1), (usize::MAX, 1_000_001), (4, 1_000_001), (0, u32::MAX)];
+
 /// Ends that are no two nodes.
 const NO_PAIRS: [(usize, usize); 7] = [(0, 4), (4, 0), (4, 4), (usize::MAX, 1), (1, usize::MAX), (2, 2), (0, 0)];
 
@@ -95,13 +98,27 @@ impl Lines {
         }
     }
 
+    fn preview(&mut self, plan: &Plan, (k, c): (usize, u32), (s, t): (usize, usize)) {
+        let ((weight, node, side, size), count) = plan.preview(k, c, s, t).unwrap();
+        let pair = format!("weight {weight}, node {node}, side {side} of {size}");
+        self.say(format!("preview link {k} to {c}, pair {s} {t}: {pair}; {count} not kept"));
+    }
+
     fn refused<T>(&mut self, call: String, reply: Result<T, u32>) {
         self.say(format!("{call}: refused {}", reply.err().unwrap()));
     }
 
     fn refused_changes(&mut self, plan: &Plan) {
-        for (k, c) in [(5, 1), (usize::MAX, 1_000_001), (4, 1_000_001), (0, u32::MAX)] {
+        for (k, c) in NO_CHANGES {
             self.refused(format!("change link {k} to {c}"), plan.clone().change(k, c));
+        }
+    }
+
+    fn refused_previews(&mut self, plan: &Plan, changes: &[(usize, u32)], pairs: &[(usize, usize)]) {
+        for &(s, t) in pairs {
+            for &(k, c) in changes {
+                self.refused(format!("preview link {k} to {c}, pair {s} {t}"), plan.preview(k, c, s, t));
+            }
         }
     }
 
@@ -120,6 +137,13 @@ fn asked(lines: &mut Lines) {
         lines.say(format!("headroom 1 3, demand {demand}: [{}] {value}", model::text(value)));
     }
     lines.pairs(&plan);
+    for change in [(1, 1), (3, 4)] {
+        for s in 0..4 {
+            for t in (0..4).filter(|&t| t != s) {
+                lines.preview(&plan, change, (s, t));
+            }
+        }
+    }
 }
 
 fn changed(lines: &mut Lines) {
@@ -128,8 +152,10 @@ fn changed(lines: &mut Lines) {
         lines.say(format!("change link {k} to {c}: {} not kept", plan.change(k, c).unwrap()));
         lines.plan(&plan);
         lines.pairs(&plan);
+        lines.preview(&plan, (k, resort_a().net.links[k].2), (3, 1));
         lines.say(format!("undo: {} not kept", plan.undo().unwrap()));
         lines.tree(&plan);
+        lines.preview(&plan, (k, c), (3, 1));
     }
 }
 
@@ -137,10 +163,13 @@ fn changed(lines: &mut Lines) {
 fn refused(lines: &mut Lines) {
     let plan = resort_a();
     lines.refused_changes(&plan);
+    lines.preview(&plan, (1, 1), (3, 1));
     lines.refused("undo".to_string(), plan.clone().undo());
     for (s, t) in NO_PAIRS {
         lines.refused(format!("pair {s} {t}"), plan.pair(s, t));
     }
+    lines.refused_previews(&plan, &NO_CHANGES, &[(3, 1), (4, 4), (2, 2)]);
+    lines.refused_previews(&plan, &[(1, 1)], &NO_PAIRS);
     for (s, t) in NO_PAIRS {
         lines.refused(format!("flow {s} {t} into 4 places"), plan.pair(s, t));
     }
@@ -167,6 +196,12 @@ fn stacked(lines: &mut Lines) {
     lines.pairs(&plan);
     lines.refused("change link 0 to 1".to_string(), plan.clone().change(0, 1));
     lines.refused_changes(&plan);
+    lines.refused_previews(&plan, &[(1, 1)], &NO_PAIRS);
+    lines.refused_previews(&plan, &[(0, 1)], &[(3, 1)]);
+    lines.refused_previews(&plan, &NO_CHANGES, &[(3, 1)]);
+    let mut one_less = plan.clone();
+    one_less.undo().unwrap();
+    lines.preview(&one_less, (4, 9), (2, 0));
     let counts: String = (0..64).map(|_| format!(" {}", plan.undo().unwrap())).collect();
     lines.say(format!("undos, not kept:{counts}"));
     lines.refused("undo".to_string(), plan.undo());

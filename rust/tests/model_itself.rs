@@ -1,5 +1,6 @@
 //! The model against the readings, its two ways to a least cut against each other, its pairs against a walk
-//! in the tree, its lightest edge against every side and every pair, and the stored listings against the model.
+//! in the tree, its lightest edge against every side and every pair, its previews against sentences and table, and the
+//! stored listings against the model.
 mod model;
 mod random;
 use model::{Plan, Tree};
@@ -144,6 +145,49 @@ fn lightest_by_trial() {
         last += (n > 2 && node == n - 1) as usize;
     }
     assert!(ties > 500 && last > 50, "ties {ties}, last {last}");
+}
+
+/// Worked out by hand from P3 to P5: on resort A as it is opened, and on P4's plan undone.
+#[test]
+fn previews_of_resort_a() {
+    let first = Plan::open(&RESORT_A).unwrap();
+    let mut undone = first.clone();
+    assert_eq!((undone.change(3, 4), undone.undo()), (Ok(2), Ok(3)));
+    for plan in [first, undone] {
+        // link 1 to 1: parents 0, 0, 2 and weights 6, 4, 6
+        assert_eq!(plan.preview(1, 1, 0, 1), Ok(((6, 1, 0b1101, 3), 1)));
+        assert_eq!(plan.preview(1, 1, 3, 1), Ok(((4, 2, 0b1100, 2), 1)));
+        assert_eq!(plan.preview(1, 1, 2, 3), Ok(((6, 3, 0b0111, 3), 1)));
+        // link 3 to 4: all parents 0, all weights 8
+        assert_eq!(plan.preview(3, 4, 1, 3), Ok(((8, 1, 0b0010, 1), 2)));
+        assert_eq!(plan.preview(3, 4, 3, 2), Ok(((8, 2, 0b1011, 3), 2)));
+        assert_eq!(plan.preview(3, 4, 0, 3), Ok(((8, 3, 0b0111, 3), 2)));
+        // the capacity that it has
+        assert_eq!(plan.preview(3, 2, 3, 1), Ok(((6, 2, 0b1100, 2), 0)));
+    }
+    // link 3 from 4 to 2, as P5 undoes it
+    let mut raised = Plan::open(&RESORT_A).unwrap();
+    raised.change(3, 4).unwrap();
+    assert_eq!(raised.preview(3, 2, 3, 1), Ok(((6, 2, 0b1100, 2), 3)));
+}
+
+/// The first condition that holds, of the change's in the table's order and then of the pair's, gives its number;
+/// every mix of them is tried.
+#[test]
+fn refusals_of_previews() {
+    let empty = Plan::open(&RESORT_A).unwrap();
+    let mut full = empty.clone();
+    (0..64).for_each(|c| assert!(full.change(1, c).is_ok()));
+    for plan in [empty, full] {
+        for (k, c) in [(4, 1_000_000), (5, 1_000_000), (4, 1_000_001), (5, 1_000_001)] {
+            for (s, t) in [(3, 0), (3, 3), (4, 0), (0, 4), (4, 4)] {
+                let rows =
+                    [(10, k > 4), (11, c > 1_000_000), (12, plan.stack.len() > 63), (14, s.max(t) > 3), (15, s == t)];
+                let first = rows.into_iter().find(|row| row.1).map(|row| row.0);
+                assert_eq!(plan.preview(k, c, s, t).err(), first, "link {k} to {c}, pair {s} {t}");
+            }
+        }
+    }
 }
 
 /// The stored listings of `tests/pairs` are the model's, of the 1,284 bytes that the program `pairs` reads at most.

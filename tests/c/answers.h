@@ -43,6 +43,22 @@ static inline void must_have_undone(const struct pamzolit_plan *was, const struc
 
 /* ---- the reply that an accepted call left on the desk, `was` being the plan that it was given */
 
+static inline void must_have_paired(const struct pamzolit_plan *plan, const struct desk *desk, const struct question *q)
+{
+    struct pamzolit_pair_reply want = pair_of(plan, q->s, q->t);
+    MUST(memcmp(&want, &desk->pair, sizeof want) == 0);
+}
+
+/* a change of a copy, and the pair of that */
+static inline void must_have_previewed(const struct pamzolit_plan *was, const struct desk *desk,
+                                       const struct question *q)
+{
+    struct pamzolit_plan copy = *was;
+    uint32_t count;
+    MUST(pamzolit_change(&copy, q->link, q->capacity, &count) == 0 && count == desk->count);
+    must_have_paired(&copy, desk, q);
+}
+
 static inline void must_have_flowed(const struct pamzolit_network *net, const int32_t *flow, size_t s, size_t t)
 {
     MUST(lawful(net, flow, s, t));
@@ -58,15 +74,12 @@ static inline void must_have_written(const struct pamzolit_network *net, const s
 static inline void must_have_answered(enum call call, const struct pamzolit_plan *was, const struct desk *desk,
                                       const struct question *q)
 {
-    struct pamzolit_pair_reply pair;
     struct pamzolit_headroom_reply headroom;
     switch (call) {
     case CHANGE: must_have_changed(was, desk, q); break;
     case UNDO: must_have_undone(was, desk); break;
-    case PAIR:
-        pair = pair_of(was, q->s, q->t);
-        MUST(memcmp(&pair, &desk->pair, sizeof pair) == 0);
-        break;
+    case PAIR: must_have_paired(was, desk, q); break;
+    case PREVIEW: must_have_previewed(was, desk, q); break;
     case HEADROOM:
         headroom = headroom_of(pair_of(was, q->s, q->t).weight, q->demand);
         MUST(memcmp(&headroom, &desk->headroom, sizeof headroom) == 0);
@@ -79,7 +92,7 @@ static inline void must_have_answered(enum call call, const struct pamzolit_plan
 /* how often each call gave each number */
 static size_t given[CALLS][PAMZOLIT_NOT_SOUND + 1];
 
-/* all six calls, each on the desk's plan as it is now; whether it is sound */
+/* all seven calls, each on the desk's plan as it is now; whether it is sound */
 static inline bool must_answer_all(struct desk *desk, const struct question *q)
 {
     struct pamzolit_plan was = desk->plan;
@@ -98,16 +111,18 @@ static inline bool must_answer_all(struct desk *desk, const struct question *q)
 /* a row of the table that was never met was not tested */
 static inline void must_have_met_all_rows(size_t least)
 {
-    static const uint32_t numbers[CALLS][5] = {
+    enum { NUMBERS = 7 };
+    static const uint32_t numbers[CALLS][NUMBERS] = {
         [CHANGE] = {0, 10, 11, 12, 19},
         [UNDO] = {0, 13, 19},
         [PAIR] = {0, 14, 15, 19},
+        [PREVIEW] = {0, 10, 11, 12, 14, 15, 19},
         [HEADROOM] = {0, 14, 15, 17, 19},
         [FLOW] = {0, 14, 15, 16, 19},
         [WRITE] = {0, 18, 19},
     };
     for (enum call call = 0; call < CALLS; call++)
-        for (int i = 0; i < 5; i++)
+        for (int i = 0; i < NUMBERS; i++)
             MUST(given[call][numbers[call][i]] >= least);
 }
 

@@ -49,6 +49,8 @@ static inline void call_in_blocks(const struct file *file, size_t links)
     struct pamzolit_plan *plan = lent.plan;
     MUST(pamzolit_open(lent.file, file->length, plan, lent.place) == 0 && *lent.place == 0);
     MUST(plan->network.links == links);
+    MUST(pamzolit_preview(plan, 0, 1, 1, 0, lent.pair, lent.count) == 0 && *lent.count < plan->network.nodes);
+    MUST(lent.pair->side & 2);
     MUST(pamzolit_change(plan, 0, 1, lent.count) == 0 && *lent.count < plan->network.nodes);
     MUST(pamzolit_undo(plan, lent.count) == 0 && *lent.count < plan->network.nodes);
     MUST(pamzolit_pair(plan, 1, 0, lent.pair) == 0 && lent.pair->side & 2);

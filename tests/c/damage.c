@@ -159,8 +159,9 @@ static void only_shape(void)
     try_desk();
 }
 
-/* Damage that keeps the shape is not seen: the tree answers, whatever its network has become. Where a weight becomes
- * the lightest, the shape is kept only if the lightest edge is written over too. */
+/* Damage that keeps the shape is not seen: the tree answers, whatever its network has become, and in a preview the
+ * steps that are kept. Where a weight becomes the lightest, the shape is kept only if the lightest edge is written over
+ * too. */
 static void keeps_the_shape(void)
 {
     trial = (struct trial){names[0], "one that keeps the shape", 0, 0};
@@ -171,6 +172,8 @@ static void keeps_the_shape(void)
     desk.plan.tree.weight[1] = 256000000;
     MUST(called(HEADROOM, &desk, &q) == 0 && desk.headroom.value == 255999999);
     MUST(memcmp(desk.headroom.text, "  25599999.9", 12) == 0);
+    /* link 0 to the capacity that it has now: every step is kept, that of node 1 with its value of 8 */
+    MUST(called(PREVIEW, &desk, &q) == 0 && desk.pair.weight == 8 && desk.count == 0);
     desk.plan.tree.weight[1] = 0;
     MUST(called(HEADROOM, &desk, &q) == 19);
     desk.plan.lightest = (struct pamzolit_edge){.node = 1};

@@ -30,7 +30,7 @@ struct desk {
 /* padding would not be safe to compare */
 _Static_assert(sizeof(struct desk) == 3104 + 4 + 32 + 20 + 1028 + 1284 + 8 + 8 + 568, "the desk has padding");
 
-enum call { CHANGE, UNDO, PAIR, HEADROOM, FLOW, WRITE, CALLS };
+enum call { CHANGE, UNDO, PAIR, PREVIEW, HEADROOM, FLOW, WRITE, CALLS };
 
 /* a call's arguments; `places` and `room` are the lengths of the flow's and the file's buffers */
 struct question {
@@ -55,6 +55,8 @@ static inline uint32_t ask(enum call call, struct desk *desk, const struct quest
     case CHANGE: return pamzolit_change(&desk->plan, q->link, q->capacity, &desk->count);
     case UNDO: return pamzolit_undo(&desk->plan, &desk->count);
     case PAIR: return pamzolit_pair(&desk->plan, q->s, q->t, &desk->pair);
+    case PREVIEW:
+        return pamzolit_preview(&desk->plan, q->link, q->capacity, q->s, q->t, &desk->pair, &desk->count);
     case HEADROOM: return pamzolit_headroom(&desk->plan, q->s, q->t, q->demand, &desk->headroom);
     case FLOW: return pamzolit_flow(&desk->plan, q->s, q->t, desk->flow, q->places);
     default: return pamzolit_write(&desk->plan, desk->file, q->room, &desk->used);
@@ -68,6 +70,7 @@ static inline void store_refusal(enum call call, struct desk *desk, uint32_t num
     case CHANGE:
     case UNDO: desk->count = 0; break;
     case PAIR: desk->pair = (struct pamzolit_pair_reply){.number = number}; break;
+    case PREVIEW: desk->pair = (struct pamzolit_pair_reply){.number = number}, desk->count = 0; break;
     case HEADROOM:
         desk->headroom = (struct pamzolit_headroom_reply){.number = number};
         memset(desk->headroom.text, ' ', sizeof desk->headroom.text);
@@ -84,6 +87,7 @@ static inline void store_reply(enum call call, struct desk *desk, const struct d
     case CHANGE:
     case UNDO: desk->plan = behind->plan, desk->count = behind->count; break;
     case PAIR: desk->pair = behind->pair, MUST(desk->pair.number == 0); break;
+    case PREVIEW: desk->pair = behind->pair, desk->count = behind->count, MUST(desk->pair.number == 0); break;
     case HEADROOM: desk->headroom = behind->headroom, MUST(desk->headroom.number == 0); break;
     case FLOW: memcpy(desk->flow, behind->flow, q->places * sizeof desk->flow[0]); break;
     default:
@@ -93,10 +97,24 @@ static inline void store_reply(enum call call, struct desk *desk, const struct d
     }
 }
 
+/* noise where the call stores something in any case, so that nothing is right because it was left there */
+static inline void cover_reply(enum call call, struct desk *desk)
+{
+    if (call == CHANGE || call == UNDO || call == PREVIEW)
+        cover_with_noise(&desk->count, sizeof desk->count);
+    if (call == PAIR || call == PREVIEW)
+        cover_with_noise(&desk->pair, sizeof desk->pair);
+    if (call == HEADROOM)
+        cover_with_noise(&desk->headroom, sizeof desk->headroom);
+    if (call == WRITE)
+        cover_with_noise(&desk->used, sizeof desk->used);
+}
+
 /* a call that keeps to what it may store; its number */
 static inline uint32_t called(enum call call, struct desk *desk, const struct question *q)
 {
     struct desk want;
+    cover_reply(call, desk);
     memcpy(&want, desk, sizeof want);
     uint32_t number = ask(call, desk, q);
     if (number != PAMZOLIT_ACCEPTED)

@@ -1,6 +1,6 @@
-/* Resort A's life as a plan in C's memory: opened, asked, changed, undone, written, copied, refused. The lines that it
- * prints are compared with life.out, which an independent model made. A flow is not printed, since its choice is free:
- * it is checked to be lawful, and its total is printed. */
+/* Resort A's life as a plan in C's memory: opened, asked, previewed, changed, undone, written, copied, refused. The
+ * lines that it prints are compared with life.out, which an independent model made. A flow is not printed, since its
+ * choice is free: it is checked to be lawful, and its total is printed. */
 #include "blocks.h"
 #include "desk.h"
 #include "files.h"
@@ -54,6 +54,24 @@ static void ask_pairs(void)
                 ask_pair(s, t);
 }
 
+/* the pair as it would be under that capacity, and the steps that would not be kept; the plan is left */
+static void preview(size_t link, uint32_t capacity, size_t s, size_t t)
+{
+    struct question q = {.link = link, .capacity = capacity, .s = s, .t = t};
+    MUST(called(PREVIEW, &desk, &q) == 0);
+    show_question(PREVIEW, &q);
+    printf(": weight %u, node %zu, side %llu of %zu; %u not kept\n", (unsigned)desk.pair.weight, desk.pair.node,
+           (unsigned long long)desk.pair.side, desk.pair.size, (unsigned)desk.count);
+}
+
+static void preview_pairs(size_t link, uint32_t capacity)
+{
+    for (size_t s = 0; s < desk.plan.network.nodes; s++)
+        for (size_t t = 0; t < desk.plan.network.nodes; t++)
+            if (s != t)
+                preview(link, capacity, s, t);
+}
+
 /* ---- changing */
 
 /* the steps not kept */
@@ -76,8 +94,10 @@ static void change_and_undo(size_t link, uint32_t capacity)
     printf("change link %zu to %u: %u not kept\n", link, (unsigned)capacity, (unsigned)change(link, capacity));
     show_plan(&desk.plan);
     ask_pairs();
+    preview(link, first.network.capacity[link], 3, 1); /* what undoing it gives */
     printf("undo: %u not kept\n", (unsigned)undo());
     show_tree(&desk.plan);
+    preview(link, capacity, 3, 1);
     MUST(same_plan(&desk.plan, &first));
 }
 
@@ -89,17 +109,18 @@ static void refuse(enum call call, struct question q)
     printf(": refused %u\n", (unsigned)called(call, &desk, &q));
 }
 
-static void refuse_changes(void)
+/* s and t are a preview's: it is refused for its change before it is for its pair */
+static void refuse_changes(enum call call, size_t s, size_t t)
 {
-    refuse(CHANGE, (struct question){.link = 5, .capacity = 1});
-    refuse(CHANGE, (struct question){.link = SIZE_MAX, .capacity = 1000001});
-    refuse(CHANGE, (struct question){.link = 4, .capacity = 1000001});
-    refuse(CHANGE, (struct question){.link = 0, .capacity = UINT32_MAX});
+    refuse(call, (struct question){.link = 5, .capacity = 1, .s = s, .t = t});
+    refuse(call, (struct question){.link = SIZE_MAX, .capacity = 1000001, .s = s, .t = t});
+    refuse(call, (struct question){.link = 4, .capacity = 1000001, .s = s, .t = t});
+    refuse(call, (struct question){.link = 0, .capacity = UINT32_MAX, .s = s, .t = t});
 }
 
 static void refuse_pairs(enum call call)
 {
-    struct question q = {.places = 4, .demand = 1000000001};
+    struct question q = {.places = 4, .demand = 1000000001, .link = 1, .capacity = 1};
     static const size_t ends[][2] = {{0, 4}, {4, 0}, {4, 4}, {SIZE_MAX, 1}, {1, SIZE_MAX}, {2, 2}, {0, 0}};
     for (size_t i = 0; i < sizeof ends / sizeof ends[0]; i++) {
         q.s = ends[i][0], q.t = ends[i][1];
@@ -110,9 +131,14 @@ static void refuse_pairs(enum call call)
 static void refuse_calls(void)
 {
     desk.plan = first;
-    refuse_changes();
+    refuse_changes(CHANGE, 0, 0);
+    preview(1, 1, 3, 1);
     refuse(UNDO, (struct question){0});
     refuse_pairs(PAIR);
+    refuse_changes(PREVIEW, 3, 1);
+    refuse_changes(PREVIEW, 4, 4);
+    refuse_changes(PREVIEW, 2, 2);
+    refuse_pairs(PREVIEW);
     refuse_pairs(FLOW);
     refuse_pairs(HEADROOM);
     refuse(FLOW, (struct question){.s = 1, .t = 3, .places = 4});
@@ -141,7 +167,20 @@ static void fill_the_stack(void)
     show_plan(&desk.plan);
     ask_pairs();
     refuse(CHANGE, (struct question){.link = 0, .capacity = 1});
-    refuse_changes();
+    refuse_changes(CHANGE, 0, 0);
+    refuse_pairs(PREVIEW);
+    refuse(PREVIEW, (struct question){.link = 0, .capacity = 1, .s = 3, .t = 1});
+    refuse_changes(PREVIEW, 3, 1);
+}
+
+/* with one change less on the stack the last one can be shown, and then made */
+static void preview_the_last_change(void)
+{
+    struct pamzolit_plan full = desk.plan;
+    undo();
+    preview(4, 9, 2, 0);
+    change(4, 9);
+    MUST(same_plan(&desk.plan, &full));
 }
 
 static void empty_the_stack(void)
@@ -219,6 +258,8 @@ int main(void)
     show_plan(&desk.plan);
     ask_headrooms();
     ask_pairs();
+    preview_pairs(1, 1);
+    preview_pairs(3, 4);
     change_and_undo(1, 1);
     change_and_undo(3, 4);
     change_and_undo(0, 5);
@@ -226,6 +267,7 @@ int main(void)
     change_and_undo(4, 1000000);
     refuse_calls();
     fill_the_stack();
+    preview_the_last_change();
     empty_the_stack();
     write_and_open();
     copy_and_change();

@@ -78,6 +78,9 @@ static inline void show_question(enum call call, const struct question *q)
     case CHANGE: printf("change link %zu to %u", q->link, (unsigned)q->capacity); break;
     case UNDO: printf("undo"); break;
     case PAIR: printf("pair %zu %zu", q->s, q->t); break;
+    case PREVIEW:
+        printf("preview link %zu to %u, pair %zu %zu", q->link, (unsigned)q->capacity, q->s, q->t);
+        break;
     case HEADROOM: printf("headroom %zu %zu, demand %u", q->s, q->t, (unsigned)q->demand); break;
     case FLOW: printf("flow %zu %zu into %zu places", q->s, q->t, q->places); break;
     default: printf("write into %zu bytes", q->room);

@@ -34,6 +34,7 @@ static inline uint32_t number_of(enum call call, const struct pamzolit_plan *pla
     case CHANGE: return change_number(plan, q);
     case UNDO: return plan->stack.depth == 0 ? 13 : 0;
     case PAIR: return nodes_number(plan, q);
+    case PREVIEW: return first_of(change_number(plan, q), true, nodes_number(plan, q));
     case HEADROOM: return first_of(nodes_number(plan, q), q->demand > 1000000000, 17);
     case FLOW: return first_of(nodes_number(plan, q), q->places != plan->network.links, 16);
     default: return q->room < file_of(&plan->network).length ? 18 : 0;

@@ -67,8 +67,11 @@ answer tree n s t =
 abbrev pub pairRows : ℕ → ℕ → ℕ → List Row → List Row
 pairRows n s t later = row (not (ltb s n && ltb t n)) noSuchNode ∷ row (eqb s t) sameNode ∷ later
 
+abbrev pub queryNumber : (n s t : ℕ) → ℕ
+queryNumber n s t = chain (pairRows n s t [])
+
 unfoldable pub queryOf : Tree → ℕ → ℕ → ℕ → PairAnswer
-queryOf tree n s t = accepted (chain (pairRows n s t [])) (answer tree n s t) Refused
+queryOf tree n s t = accepted (queryNumber n s t) (answer tree n s t) Refused
 
 -- the paper's number and values for each case of an answer
 abbrev pub numberOf : PairAnswer → ℕ

@@ -7,7 +7,9 @@ pub mod TakingLaws
 pub mod LoopLaws
 pub mod RuleLaws
 pub mod RebuildLaws
+pub mod PlacedLaws
 pub mod RuleTree
+pub mod RankLaws
 pub mod Depth
 pub mod RuleShape
 pub mod MemberLaws

@@ -2,13 +2,14 @@
 // for their lightest edge.
 mod keep; // which steps are kept, and a step's cut
 mod lightest; // the lightest edge of a tree
-mod path; // the pair query, and whether a node reaches node 0
+mod path; // the pair query with its refusals, and whether a node reaches node 0
 mod rule; // one step of the rule
 mod trees; // build and rebuild
 
 pub use crate::lightest::lightest_edge;
 pub use crate::path::MAX_CLIMB;
 pub use crate::path::query;
+pub use crate::path::query_number;
 pub use crate::path::reaches_root;
 pub use crate::trees::build;
 pub use crate::trees::rebuild;

@@ -9,7 +9,8 @@ ghost use mathlib.Core.Path.{_≡_};
 ghost use Prim.Native.Nat.{_<_};
 ghost use Rattle.base.specs.Word.{word};
 ghost use Rattle.network.specs.Limits.{maxNodes};
-ghost use Rattle.cut_tree.specs.Path.{maxClimb, reaches, Climbs, climb, under, lightestOn, sideOf, queryOf};
+ghost use Rattle.cut_tree.specs.Path.{maxClimb, reaches, Climbs, climb, under, lightestOn, sideOf};
+ghost use Rattle.cut_tree.specs.Path.{queryNumber, queryOf};
 ghost use Rattle.base.specs.Basics.{among};
 ghost use Rattle.cut_tree.specs.code.QueryParts.{Inside, Known, climbTo, addedAll, addedIf, lighter};
 ghost use Rattle.cut_tree.specs.code.QueryParts.{lightestFrom};
@@ -170,19 +171,30 @@ fn side_of(parent: &[u8; MAX_NODES], n: usize, v: usize, s: usize) -> u64
     node_set::complement(x, n)
 }
 
+// The refusal of a pair of nodes, in the order of the table of checks; 0 where there is none.
+pub fn query_number(n: usize, s: usize, t: usize) -> u32
+    ensures { λ r. ⌜ r ≡ queryNumber n s t ⌝ }
+{
+    if n <= s {
+        return NO_SUCH_NODE;
+    }
+    if n <= t {
+        return NO_SUCH_NODE;
+    }
+    if s == t {
+        return SAME_NODE;
+    }
+    0
+}
+
 // The answer for a pair: the lightest edge of its path and the side that holds s once that edge is cut.
 pub fn query(tree: Tree, n: usize, s: usize, t: usize) -> PairAnswer
     requires { ⌜ Climbs n (tree .parent) ⌝ }
     ensures { λ r. ⌜ r ≡ queryOf tree n s t ⌝ }
 {
-    if n <= s {
-        return PairAnswer::Refused(NO_SUCH_NODE);
-    }
-    if n <= t {
-        return PairAnswer::Refused(NO_SUCH_NODE);
-    }
-    if s == t {
-        return PairAnswer::Refused(SAME_NODE);
+    let number = query_number(n, s, t);
+    if number != 0 {
+        return PairAnswer::Refused(number);
     }
     let parent = tree.parent;
     let weight = tree.weight;

@@ -13,12 +13,13 @@ use contract.Lifetimes.{Lfts}
 use contract.Monad.{Fun, fact}
 use denote.Triple.Clauses.{Lasts, atExit}
 use denote.Triple.Entry.{Args}
-use Rattle.exports.specs.Made.{pamzolit-change, pamzolit-undo, pamzolit-pair, pamzolit-flow, pamzolit-headroom}
-use Rattle.exports.specs.Made.{pamzolit-write, Opened, Promise}
+use Rattle.exports.specs.Made.{pamzolit-change, pamzolit-undo, pamzolit-pair, pamzolit-preview, pamzolit-flow}
+use Rattle.exports.specs.Made.{pamzolit-headroom, pamzolit-write, Opened, Promise}
 use Rattle.exports.proofs.held.pamzolit_open as «open»
 use Rattle.exports.proofs.held.pamzolit_change as change
 use Rattle.exports.proofs.held.pamzolit_undo as undo
 use Rattle.exports.proofs.held.pamzolit_pair as pair
+use Rattle.exports.proofs.held.pamzolit_preview as preview
 use Rattle.exports.proofs.held.pamzolit_headroom as headroom
 use Rattle.exports.proofs.held.pamzolit_flow as flow
 use Rattle.exports.proofs.held.pamzolit_write as write
@@ -48,6 +49,14 @@ module _ {M : Type 1} (𝓤 : URA M) (H : Heap 𝓤) (A : Atoms 𝓤) (at-mem : 
       → pair.clauses 𝓤 H A at-mem run κs a .ensures tt r (atExit pair.ended κs a ws)
       ≡ fact 𝓤 (Promise (a .0 .now) (pamzolit-pair (a .1 .0) (a .1 .1 .0) r (ws .1 .1 .1 .0) (a .0 .now)))
   pair-promises κs a ws r = refl
+
+  preview-promises : (κs : Lfts (preview.signature .lifetimes)) (a : Args preview.signature κs)
+      → (ws : Lasts preview.ended κs a) (r : ℕ)
+      → preview.clauses 𝓤 H A at-mem run κs a .ensures tt r (atExit preview.ended κs a ws)
+      ≡ fact 𝓤 (Promise (a .0 .now)
+      (pamzolit-preview (a .1 .0) (a .1 .1 .0) (a .1 .1 .1 .0) (a .1 .1 .1 .1 .0) r (ws .1 .1 .1 .1 .1 .0)
+      (ws .1 .1 .1 .1 .1 .1 .0) (a .0 .now)))
+  preview-promises κs a ws r = refl
 
   headroom-promises : (κs : Lfts (headroom.signature .lifetimes)) (a : Args headroom.signature κs)
       → (ws : Lasts headroom.ended κs a) (r : ℕ)

@@ -13,19 +13,21 @@ use Rattle.cut_tree.specs.declared.PairAnswer.{PairAnswer}
 use Rattle.cut_tree.specs.declared.PairAnswer.the-variants.{Refused, Found}
 use Rattle.plan.specs.BothEnds.{pair-both-ends}
 use Rattle.plan.specs.laws.AnswersLaws.{headroom-found}
-use Rattle.plan.specs.Calls.{openOf, pairNumber, pairOf, writeOf, writtenTo}
+use Rattle.plan.specs.Calls.{openOf, changeOf, pairNumber, pairOf, noPreview, previewBy, previewOf, writeOf, writtenTo}
 use Rattle.history.specs.History.{Claims, Demand3, Opens, RightPair}
 use Rattle.history.specs.Machine.{begin, state}
 use Rattle.plan.specs.Numbers.{headroom-numbered, write-numbered}
 use Rattle.history.specs.Run.{Event, Run, callsOf, left, planAfter}
 use Rattle.history.specs.Whole.{demand-3}
+use Rattle.plan.specs.declared.Changed.{Changed}
 use Rattle.plan.specs.declared.HeadroomReply.{HeadroomReply}
 use Rattle.plan.specs.declared.Opening.{Opening}
 use Rattle.plan.specs.declared.Plan.{Plan}
+use Rattle.plan.specs.declared.PreviewReply.{PreviewReply}
 use Rattle.plan.specs.declared.Written.{Written}
-use Rattle.exports.specs.Made.{Made, pamzolit-change, pamzolit-undo, pamzolit-pair, pamzolit-flow}
-use Rattle.exports.specs.Made.{pamzolit-headroom, pamzolit-write, Opened, Promise, planIn, Held, holding}
-use Rattle.exports.specs.Made.{eventsIn, events}
+use Rattle.exports.specs.Made.{Made, pamzolit-change, pamzolit-undo, pamzolit-pair, pamzolit-preview}
+use Rattle.exports.specs.Made.{pamzolit-flow, pamzolit-headroom, pamzolit-write, Opened, Promise, planIn, Held}
+use Rattle.exports.specs.Made.{holding, eventsIn, events}
 use Rattle.exports.specs.PairReply.{pairReply, answerIn}
 use Rattle.exports.specs.declared.held.PairReply.{PairReply}
 
@@ -37,6 +39,26 @@ answer-in p s t = go (pairNumber p s t)
     go : (e : ℕ) → let a = accepted e (answer (p .tree) (p .network .nodes) s t) Refused in answerIn (pairReply a) ≡ a
     go zero = refl
     go (suc e) = refl
+
+-- a preview has a pair's answer and a change's count, 0 beside a refusal; so its numbers tell its answer
+by-pair : (p : Plan) (s t count : ℕ) → let a = pairOf p s t in
+    previewBy a count ≡ record { answer = a; count = accepted (pairReply a .number) count (λ e. 0) }
+unfolding pairOf answer
+by-pair p s t count = go (pairNumber p s t)
+  where
+    go : (e : ℕ) → let a = accepted e (answer (p .tree) (p .network .nodes) s t) Refused in
+        previewBy a count ≡ record { answer = a; count = accepted (pairReply a .number) count (λ e. 0) }
+    go zero = refl
+    go (suc e) = refl
+
+pub preview-in : (p : Plan) (k c s t : ℕ) → let a = previewOf p k c s t .answer in answerIn (pairReply a) ≡ a
+unfolding previewOf
+preview-in p k c s t = go (changeOf p k c .number) (changeOf p k c .plan) (changeOf p k c .count)
+  where
+    go : (e : ℕ) (q : Plan) (count : ℕ) → let a = accepted e (previewBy (pairOf q s t) count) noPreview .answer in
+        answerIn (pairReply a) ≡ a
+    go zero q count = rw (by-pair q s t count) (answer-in q s t)
+    go (suc e) q count = refl
 
 number-in : (a : PairAnswer) → pairReply a .number ≡ numberOf a
 number-in (Refused e) = refl
@@ -53,6 +75,23 @@ held-both-ends p s t number other r q plan₁ plan₂ (e, er, _) (f, fq, _) =
       rw (er, fq, answer-in p s t, answer-in p t s) both,
     )
 
+-- ---- a preview stores what a change and then a pair call store on a copy of the memory, if the change is accepted;
+-- and its count is the change's, or 0 if the pair is refused
+pub held-preview : (p : Plan) (link capacity s t : ℕ)
+    → (count : ℕ) (copy : Plan) → Promise p (pamzolit-change link capacity 0 count copy)
+    → (number : ℕ) (reply : PairReply) (copy₂ : Plan) → Promise copy (pamzolit-pair s t number reply copy₂)
+    → (other : ℕ) (r : PairReply) (n : ℕ) (plan : Plan) → Promise p (pamzolit-preview link capacity s t other r n plan)
+    → (other ≡ number) × (r ≡ reply) × (n ≡ accepted number count (λ e. 0))
+unfolding previewOf
+held-preview p link capacity s t count copy changed number reply copy₂ (e, er, _) other r n plan (f, fr, fn, _) =
+    let by : Changed → PreviewReply =
+    λ x. accepted (x .number) (previewBy (pairOf (x .plan) s t) (x .count)) noPreview in
+    let is = sym (ap by changed) ∙ by-pair copy s t count in (
+      f ∙ ap (λ (x : PreviewReply). pairReply (x .answer) .number) is ∙ sym e,
+      fr ∙ ap (λ (x : PreviewReply). pairReply (x .answer)) is ∙ sym er,
+      fn ∙ ap (λ (x : PreviewReply). x .count) is ∙ ap (λ (e : ℕ). accepted e count (λ _. 0)) (sym e),
+    )
+
 -- ---- each kind of call, by what its function promises: it is that call of a run, which leaves what the memory then
 -- holds. Headroom and write are no calls of a run: they leave the plan.
 pub runs : (p : Plan) (m : Made) → Promise p m → Run p (eventsIn m) × (left p (eventsIn m) ≡ planIn m)
@@ -60,6 +99,10 @@ unfolding left
 runs p (pamzolit-change link capacity number count plan) e = ((e, tt), refl)
 runs p (pamzolit-undo number count plan) e = ((e, tt), refl)
 runs p (pamzolit-pair s t number reply plan) (e, r, same) = ((ap answerIn r ∙ answer-in p s t, tt), sym same)
+runs p (pamzolit-preview link capacity s t number reply count plan) (e, r, n, same) = (
+  (rw (r, n, preview-in p link capacity s t), tt),
+  sym same,
+)
 runs p (pamzolit-flow s t before number behind plan) (f, same) = (((refl, f), tt), sym same)
 runs p (pamzolit-headroom s t demand number reply plan) (e, r, same) = (tt, sym same)
 runs p (pamzolit-write before number used behind plan) (e, w, same) = (tt, sym same)
@@ -88,7 +131,7 @@ held-run (m ∷ ms) p (h, hs) =
 -- ---- demand 3
 module _ (file : List ℕ) (place : ℕ) (plan : Plan) (opened : Opened file 0 place plan) (ms : List Made)
     (held : Held plan ms) where
-  -- the machine after the change, undo, pair and flow calls among them
+  -- the machine after the change, undo, pair, preview and flow calls among them
   pub held-demand-3 : Claims plan (holding plan ms)
       (state (plan .network) (begin (plan .network)) (callsOf (events ms))) (events ms)
   held-demand-3 =

@@ -5,8 +5,8 @@ use mathlib.Core.Path.{_≡_}
 use mathlib.Core.List.{List, [], _∷_, _++_}
 use lib.ListN.{length}
 use lib.IntN.{ℤ}
-use Rattle.plan.specs.Calls.{openOf, changeOf, undoOf, pairOf, Flowed, headroomOf, writeOf, writtenTo}
-use Rattle.history.specs.Machine.{pair, flow, change, undo, ask}
+use Rattle.plan.specs.Calls.{openOf, changeOf, undoOf, pairOf, previewOf, Flowed, headroomOf, writeOf, writtenTo}
+use Rattle.history.specs.Machine.{pair, flow, preview, change, undo, ask}
 use Rattle.history.specs.Run.{Event}
 use Rattle.plan.specs.declared.HeadroomReply.{HeadroomReply}
 use Rattle.plan.specs.declared.Plan.{Plan}
@@ -19,6 +19,7 @@ pub data Made : Type 0 where
   pamzolit-change : (link capacity : ℕ) (number count : ℕ) (plan : Plan) → Made
   pamzolit-undo : (number count : ℕ) (plan : Plan) → Made
   pamzolit-pair : (s t : ℕ) (number : ℕ) (reply : PairReply) (plan : Plan) → Made
+  pamzolit-preview : (link capacity s t : ℕ) (number : ℕ) (reply : PairReply) (count : ℕ) (plan : Plan) → Made
   pamzolit-flow : (s t : ℕ) (before : List ℤ) (number : ℕ) (behind : List ℤ) (plan : Plan) → Made
   pamzolit-headroom : (s t demand : ℕ) (number : ℕ) (reply : HeadroomReply) (plan : Plan) → Made
   pamzolit-write : (before : List ℕ) (number used : ℕ) (behind : List ℕ) (plan : Plan) → Made
@@ -35,6 +36,12 @@ Promise p (pamzolit-change link capacity number count plan) =
 Promise p (pamzolit-undo number count plan) = record { number = number; count = count; plan = plan } ≡ undoOf p
 Promise p (pamzolit-pair s t number reply plan) =
     (number ≡ pairReply (pairOf p s t) .number) × (reply ≡ pairReply (pairOf p s t)) × (plan ≡ p)
+Promise p (pamzolit-preview link capacity s t number reply count plan) =
+    let shown = previewOf p link capacity s t in
+    (number ≡ pairReply (shown .answer) .number)
+    × (reply ≡ pairReply (shown .answer))
+    × (count ≡ shown .count)
+    × (plan ≡ p)
 Promise p (pamzolit-flow s t before number behind plan) = Flowed p s t before number behind × (plan ≡ p)
 Promise p (pamzolit-headroom s t demand number reply plan) =
     (number ≡ headroomOf p s t demand .number) × (reply ≡ headroomOf p s t demand) × (plan ≡ p)
@@ -48,6 +55,7 @@ abbrev pub numberBack : Made → ℕ
 numberBack (pamzolit-change link capacity number count plan) = number
 numberBack (pamzolit-undo number count plan) = number
 numberBack (pamzolit-pair s t number reply plan) = number
+numberBack (pamzolit-preview link capacity s t number reply count plan) = number
 numberBack (pamzolit-flow s t before number behind plan) = number
 numberBack (pamzolit-headroom s t demand number reply plan) = number
 numberBack (pamzolit-write before number used behind plan) = number
@@ -56,6 +64,7 @@ abbrev pub planIn : Made → Plan
 planIn (pamzolit-change link capacity number count plan) = plan
 planIn (pamzolit-undo number count plan) = plan
 planIn (pamzolit-pair s t number reply plan) = plan
+planIn (pamzolit-preview link capacity s t number reply count plan) = plan
 planIn (pamzolit-flow s t before number behind plan) = plan
 planIn (pamzolit-headroom s t demand number reply plan) = plan
 planIn (pamzolit-write before number used behind plan) = plan
@@ -70,13 +79,18 @@ unfoldable pub holding : Plan → List Made → Plan
 holding p [] = p
 holding p (m ∷ ms) = holding (planIn m) ms
 
--- ---- the change, undo, pair and flow calls among them, as demand 3 speaks of them
+-- ---- the change, undo, pair, preview and flow calls among them, as demand 3 speaks of them
 abbrev pub eventsIn : Made → List Event
 eventsIn (pamzolit-change link capacity number count plan) =
     record { call = change link capacity; reply = record { number = number; count = count; plan = plan } } ∷ []
 eventsIn (pamzolit-undo number count plan) =
     record { call = undo; reply = record { number = number; count = count; plan = plan } } ∷ []
 eventsIn (pamzolit-pair s t number reply plan) = record { call = ask (pair s t); reply = answerIn reply } ∷ []
+eventsIn (pamzolit-preview link capacity s t number reply count plan) =
+    record {
+      call = ask (preview link capacity s t);
+      reply = record { answer = answerIn reply; count = count };
+    } ∷ []
 eventsIn (pamzolit-flow s t before number behind plan) =
     record {
       call = ask (flow s t (length before));

@@ -1,5 +1,5 @@
 -- Number 19 of a plan that the caller holds: memory that is no sound plan, and the zeros beside a refused opening.
--- Every call returns 19 and leaves the plan. Assumes nothing.
+-- Every call returns 19 and leaves the plan; a preview stores zeros. Assumes nothing.
 use Prim.Native.Nat.{ℕ}
 use mathlib.Core.Path.{_≡_, refl, ap, _∙_}
 use mathlib.Core.Logic.{_≢_}
@@ -10,18 +10,28 @@ use Rattle.base.specs.Basics.{every}
 use Rattle.base.specs.Conditions.{absent, single}
 use Rattle.network.specs.Refusals.{notSound}
 use Rattle.network.specs.Network.{networkFits}
-use Rattle.plan.specs.Calls.{openOf}
+use Rattle.cut_tree.specs.declared.PairAnswer.the-variants.{Refused}
+use Rattle.plan.specs.Calls.{openOf, noPreview, previewOf}
 use Rattle.plan.specs.Numbers.{change-numbered, change-refused, undo-numbered, undo-refused}
-use Rattle.plan.specs.Numbers.{pair-numbered, pair-refused, flow-numbered, headroom-numbered, write-numbered}
-use Rattle.plan.specs.Numbers.{opening-refused}
+use Rattle.plan.specs.Numbers.{pair-numbered, pair-refused, preview-numbered, preview-refused, flow-numbered}
+use Rattle.plan.specs.Numbers.{headroom-numbered, write-numbered, opening-refused}
 use Rattle.plan.specs.Plan.{sound, noPlan}
 use Rattle.plan.specs.declared.Changed.{Changed}
 use Rattle.plan.specs.declared.Opening.{Opening}
 use Rattle.plan.specs.declared.Plan.{Plan}
+use Rattle.plan.specs.declared.PreviewReply.{PreviewReply}
 use Rattle.plan.specs.declared.Written.{Written}
 use Rattle.exports.specs.PairReply.{pairReply}
-use Rattle.exports.specs.Made.{Made, pamzolit-change, pamzolit-undo, pamzolit-pair, pamzolit-flow}
-use Rattle.exports.specs.Made.{pamzolit-headroom, pamzolit-write, Opened, Promise, numberBack, planIn}
+use Rattle.exports.specs.Made.{Made, pamzolit-change, pamzolit-undo, pamzolit-pair, pamzolit-preview}
+use Rattle.exports.specs.Made.{pamzolit-flow, pamzolit-headroom, pamzolit-write, Opened, Promise, numberBack}
+use Rattle.exports.specs.Made.{planIn}
+use Rattle.exports.specs.declared.held.PairReply.{PairReply}
+
+no-preview : (p : Plan) → sound p ≡ false → (k c s t : ℕ) → previewOf p k c s t ≡ noPreview notSound
+unfolding absent single
+no-preview p bad k c s t =
+    let n = preview-numbered p k c s t .exactly notSound refl .1 bad in
+    preview-refused p k c s t (λ z. omega (arith, n, z)) ∙ ap noPreview n
 
 -- whatever the memory holds, if it is not sound
 pub unsound-19 : (p : Plan) → sound p ≡ false → (m : Made) → Promise p m → (numberBack m ≡ notSound) × (planIn m ≡ p)
@@ -40,12 +50,24 @@ unsound-19 p bad (pamzolit-pair s t number reply plan) (e, r, same) =
     let n = pair-numbered p s t .exactly notSound refl .1 bad in
     let refused = pair-refused p s t (λ z. omega (arith, n, z)) in
     (e ∙ ap (λ a. pairReply a .number) refused ∙ n, same)
+unsound-19 p bad (pamzolit-preview link capacity s t number reply count plan) (e, r, n, same) =
+    (e ∙ ap (λ (r : PreviewReply). pairReply (r .answer) .number) (no-preview p bad link capacity s t), same)
 unsound-19 p bad (pamzolit-flow s t before number behind plan) (f, same) =
     (flow-numbered p s t before number behind f .exactly notSound refl .1 bad, same)
 unsound-19 p bad (pamzolit-headroom s t demand number reply plan) (e, r, same) =
     (e ∙ headroom-numbered p s t demand .exactly notSound refl .1 bad, same)
 unsound-19 p bad (pamzolit-write before number used behind plan) (e, w, same) =
     (ap (λ (r : Written). r .number) e ∙ write-numbered p before .exactly notSound refl .1 bad, same)
+
+-- what a preview then stores: zeros beside the number, and the count 0
+pub unsound-preview : (p : Plan) → sound p ≡ false → (link capacity s t number : ℕ) (reply : PairReply) (count : ℕ)
+    → (plan : Plan) → Promise p (pamzolit-preview link capacity s t number reply count plan)
+    → (reply ≡ pairReply (Refused notSound)) × (count ≡ 0)
+unsound-preview p bad link capacity s t number reply count plan (e, r, n, same) =
+    let refused = no-preview p bad link capacity s t in (
+      r ∙ ap (λ (r : PreviewReply). pairReply (r .answer)) refused,
+      n ∙ ap (λ (r : PreviewReply). r .count) refused,
+    )
 
 -- a refused opening leaves zeros, and zeros are not sound
 zeros : sound noPlan ≡ false

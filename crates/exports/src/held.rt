@@ -7,7 +7,7 @@ use plan::Plan;
 ghost use lib.ListN.{length};
 ghost use mathlib.Core.Path.{_≡_};
 ghost use Rattle.exports.specs.PairReply.{pairReply};
-ghost use Rattle.plan.specs.Calls.{openOf, changeOf, undoOf, pairOf, Flowed, headroomOf, writeOf, writtenTo};
+ghost use Rattle.plan.specs.Calls.{openOf, changeOf, undoOf, pairOf, previewOf, Flowed, headroomOf, writeOf, writtenTo};
 
 // A pair's answer as numbers: zeros beside a refusal.
 #[repr(C)]
@@ -60,10 +60,9 @@ pub extern "C" fn pamzolit_undo(plan: &mut Plan, count: &mut u32) -> u32
     changed.number
 }
 
-fn pair_reply(p: Plan, s: usize, t: usize) -> PairReply
-    ensures { λ r. ⌜ r ≡ pairReply (pairOf p s t) ⌝ }
+fn in_numbers(answer: PairAnswer) -> PairReply
+    ensures { λ r. ⌜ r ≡ pairReply answer ⌝ }
 {
-    let answer = plan::pair(p, s, t);
     match answer {
         PairAnswer::Refused(number) => PairReply {
             number,
@@ -87,6 +86,12 @@ fn pair_reply(p: Plan, s: usize, t: usize) -> PairReply
     }
 }
 
+fn pair_reply(p: Plan, s: usize, t: usize) -> PairReply
+    ensures { λ r. ⌜ r ≡ pairReply (pairOf p s t) ⌝ }
+{
+    in_numbers(plan::pair(p, s, t))
+}
+
 // The lightest edge of the tree path between two nodes.
 #[no_mangle]
 pub extern "C" fn pamzolit_pair(plan: &Plan, s: usize, t: usize, reply: &mut PairReply) -> u32
@@ -97,6 +102,46 @@ pub extern "C" fn pamzolit_pair(plan: &Plan, s: usize, t: usize, reply: &mut Pai
     let found = pair_reply(*plan, s, t);
     *reply = found;
     found.number
+}
+
+// A preview's answer as numbers, and its count.
+struct PreviewNumbers {
+    pair: PairReply,
+    count: u32,
+}
+
+fn preview_numbers(p: Plan, link: usize, capacity: u32, s: usize, t: usize) -> PreviewNumbers
+    ensures { λ r. let shown = previewOf p link capacity s t in
+        ⌜ r ≡ record { pair = pairReply (shown .answer); count = shown .count } ⌝ }
+{
+    let found = plan::preview(p, link, capacity, s, t);
+    let answer = found.answer;
+    PreviewNumbers {
+        pair: in_numbers(answer),
+        count: found.count,
+    }
+}
+
+// The pair as a change would leave it; the plan stays as it is. The count is of the steps that the change would not
+// keep.
+#[no_mangle]
+pub extern "C" fn pamzolit_preview(
+    plan: &Plan,
+    link: usize,
+    capacity: u32,
+    s: usize,
+    t: usize,
+    reply: &mut PairReply,
+    count: &mut u32,
+) -> u32
+    ensures { λ r. let shown = previewOf (now (plan .entry)) link capacity s t in
+        ⌜ (r ≡ pairReply (shown .answer) .number) × (now (reply .exit) ≡ pairReply (shown .answer))
+        × (now (count .exit) ≡ shown .count) × (now (plan .exit) ≡ now (plan .entry)) ⌝ }
+{
+    let found = preview_numbers(*plan, link, capacity, s, t);
+    *reply = found.pair;
+    *count = found.count;
+    found.pair.number
 }
 
 // The pair's weight less a demand, as a number and as text.

@@ -1,5 +1,5 @@
--- Demand 3: what is claimed of every list of change, undo, pair and flow calls from an accepted opening. One claim,
--- about the whole list.
+-- Demand 3: what is claimed of every list of change, undo, pair, flow and preview calls from an accepted opening. One
+-- claim, about the whole list.
 use Prim.Native.Nat.{ℕ, _-_, _≤_, _<_}
 use mathlib.Core.Path.{_≡_}
 use mathlib.Core.Logic.{_≢_}
@@ -9,7 +9,7 @@ use lib.ListN.{length, take, set}
 use lib.IntN.{ℤ, pos}
 use Rattle.base.specs.Basics.{blankFrom, among}
 use Rattle.base.specs.Checks.{accepted}
-use Rattle.network.specs.Network.{minCutValue, LawfulFlow, totalOf}
+use Rattle.network.specs.Network.{withCapacity, minCutValue, LawfulFlow, totalOf}
 use Rattle.network.specs.declared.Network.{Network}
 use Rattle.network_file.specs.Writing.{fileOf}
 use Rattle.cut_tree.specs.Rule.{rule}
@@ -21,13 +21,14 @@ use Rattle.cut_tree.specs.Answer.{MinimumAnswer, LightestAnswer}
 use Rattle.cut_tree.specs.declared.PairAnswer.{PairAnswer}
 use Rattle.cut_tree.specs.declared.PairAnswer.the-variants.{Refused}
 use Rattle.plan.specs.Plan.{sound, noStack}
-use Rattle.plan.specs.Calls.{openOf, pairOf, writeOf, writtenTo}
+use Rattle.plan.specs.Calls.{openOf, pairOf, noPreview, writeOf, writtenTo}
 use Rattle.plan.specs.Lightest.{LeastPair}
-use Rattle.history.specs.Machine.{Query, pair, flow, Call, change, undo, ask, Entry, State, begin, next, state}
-use Rattle.history.specs.Machine.{numbers, numberAt, networkAt, stackOf}
+use Rattle.history.specs.Machine.{Query, pair, flow, preview, Call, change, undo, ask, Entry, State, begin, next}
+use Rattle.history.specs.Machine.{state, numbers, numberAt, networkAt, stackOf}
 use Rattle.history.specs.Run.{FlowReply, Answer, Reply, Event, numberIn, callsOf, numbersOf, Answered, planAfter}
 use Rattle.history.specs.Run.{left}
 use Rattle.plan.specs.declared.Plan.{Plan}
+use Rattle.plan.specs.declared.PreviewReply.{PreviewReply}
 
 -- ---- a plan, and the machine beside it
 -- q is what the opened network and the machine's state make it
@@ -69,6 +70,11 @@ pub record RightFlow (G : Network) (s t weight : ℕ) (f : List ℤ) : Type 0 wh
   pub maximum : totalOf G f s ≡ pos (minCutValue G s t)
   pub by-weight : totalOf G f s ≡ pos weight
 
+-- the steps that the change would not keep, and the pair with that one link at its new capacity
+pub record RightPreview (G : Network) (k c s t : ℕ) (r : PreviewReply) : Type 0 where
+  pub count : RightCount G k c (r .count)
+  pub pair : RightPair (withCapacity G k c) s t (r .answer)
+
 -- the top of the stack, of a machine whose undo is accepted
 abbrev pub top : List Entry → Entry
 top [] = record { link = 0; capacity = 0 }
@@ -77,16 +83,18 @@ top (e ∷ es) = e
 abbrev pub RightAnswer : Network → (q : Query) → Answer q → Type 0
 RightAnswer G (pair s t) r = RightPair G s t r
 RightAnswer G (flow s t size) r = RightFlow G s t (weightOf (answer (rule G .tree) (G .nodes) s t)) (r .behind)
+RightAnswer G (preview k c s t) r = RightPreview G k c s t r
 
 abbrev pub Right : Network → List Entry → (c : Call) → Reply c → Type 0
 Right G stack (change k c) r = RightCount G k c (r .count)
 Right G stack undo r = RightCount G (top stack .link) (top stack .capacity) (r .count)
 Right G stack (ask q) r = RightAnswer G q r
 
--- ---- refused replies: plan and buffer are as before, a count is 0, and a pair's reply has nothing but the number
+-- ---- refused replies: plan and buffer are as before, a count is 0, and a pair's answer has nothing but the number
 abbrev pub NoAnswer : (q : Query) → Answer q → Type 0
 NoAnswer (pair s t) r = r ≡ Refused (numberOf r)
 NoAnswer (flow s t size) r = r .behind ≡ r .before
+NoAnswer (preview k c s t) r = r ≡ noPreview (numberOf (r .answer))
 
 abbrev pub Unaltered : Plan → (c : Call) → Reply c → Type 0
 Unaltered p (change k c) r = (r .plan ≡ p) × (r .count ≡ 0)

@@ -18,6 +18,7 @@ use Rattle.plan.specs.declared.Stack.{Stack}
 pub data Query : Type 0 where
   pair : (s t : ℕ) → Query
   flow : (s t size : ℕ) → Query
+  preview : (link capacity s t : ℕ) → Query
 
 pub data Call : Type 0 where
   change : (link capacity : ℕ) → Call
@@ -37,19 +38,24 @@ pub record State : Type 0 where
 abbrev pub begin : Network → State
 begin net = record { capacity = take (net .links) (net .capacity); stack = [] }
 
--- the table of checks, from n, m, the machine's own state and the arguments
-abbrev pub queryRows : ℕ → ℕ → Query → List Row
-queryRows n m (pair s t) = pairRows n s t []
-queryRows n m (flow s t size) = pairRows n s t (row (not (eqb size m)) flowLength ∷ [])
-
-abbrev pub callRows : ℕ → ℕ → State → Call → List Row
-callRows n m x (change k c) =
+-- the table of checks, from n, m, the machine's own state and the arguments; of a change with those that come after
+-- them
+abbrev pub changeRows : ℕ → State → (k c : ℕ) → List Row → List Row
+changeRows m x k c later =
     row (not (ltb k m)) noSuchLink
     ∷ row (ltb maxCapacity c) capacityTooLarge
     ∷ row (eqb (length (x .stack)) maxDepth) stackFull
-    ∷ []
+    ∷ later
+
+abbrev pub queryRows : ℕ → ℕ → State → Query → List Row
+queryRows n m x (pair s t) = pairRows n s t []
+queryRows n m x (flow s t size) = pairRows n s t (row (not (eqb size m)) flowLength ∷ [])
+queryRows n m x (preview k c s t) = changeRows m x k c (pairRows n s t [])
+
+abbrev pub callRows : ℕ → ℕ → State → Call → List Row
+callRows n m x (change k c) = changeRows m x k c []
 callRows n m x undo = row (eqb (length (x .stack)) 0) nothingToUndo ∷ []
-callRows n m x (ask q) = queryRows n m q
+callRows n m x (ask q) = queryRows n m x q
 
 unfoldable pub refusal : ℕ → ℕ → State → Call → ℕ
 refusal n m x call = chain (callRows n m x call)

@@ -1,5 +1,5 @@
--- A run: a list of change, undo, pair and flow calls with their replies. "The first call is given the plan of the
--- opening. Each later one is given the plan that the call before it gave back, or was itself given if it gives none
+-- A run: a list of change, undo, pair, flow and preview calls with their replies. "The first call is given the plan of
+-- the opening. Each later one is given the plan that the call before it gave back, or was itself given if it gives none
 -- back." The list may be empty.
 use Prim.Native.Nat.{ℕ}
 use mathlib.Core.Path.{_≡_}
@@ -8,10 +8,11 @@ use lib.ListN.{length}
 use lib.IntN.{ℤ}
 use Rattle.cut_tree.specs.Path.{numberOf}
 use Rattle.cut_tree.specs.declared.PairAnswer.{PairAnswer}
-use Rattle.plan.specs.Calls.{changeOf, undoOf, pairOf, Flowed}
-use Rattle.history.specs.Machine.{Query, pair, flow, Call, change, undo, ask}
+use Rattle.plan.specs.Calls.{changeOf, undoOf, pairOf, previewOf, Flowed}
+use Rattle.history.specs.Machine.{Query, pair, flow, preview, Call, change, undo, ask}
 use Rattle.plan.specs.declared.Plan.{Plan}
 use Rattle.plan.specs.declared.Changed.{Changed}
+use Rattle.plan.specs.declared.PreviewReply.{PreviewReply}
 
 -- ---- calls and replies
 -- the flow call's number, with its buffer before and behind it
@@ -23,6 +24,7 @@ pub record FlowReply : Type 0 where
 abbrev pub Answer : Query → Type 0
 Answer (pair s t) = PairAnswer
 Answer (flow s t size) = FlowReply
+Answer (preview k c s t) = PreviewReply
 
 abbrev pub Reply : Call → Type 0
 Reply (change k c) = Changed
@@ -37,6 +39,7 @@ pub record Event : Type 0 where
 abbrev pub answerNumber : (q : Query) → Answer q → ℕ
 answerNumber (pair s t) r = numberOf r
 answerNumber (flow s t size) r = r .number
+answerNumber (preview k c s t) r = numberOf (r .answer)
 
 abbrev pub numberIn : (c : Call) → Reply c → ℕ
 numberIn (change k c) r = r .number
@@ -54,6 +57,7 @@ numbersOf = map (λ e. numberIn (e .call) (e .reply))
 abbrev pub Answered : Plan → (q : Query) → Answer q → Type 0
 Answered p (pair s t) r = r ≡ pairOf p s t
 Answered p (flow s t size) r = (length (r .before) ≡ size) × Flowed p s t (r .before) (r .number) (r .behind)
+Answered p (preview k c s t) r = r ≡ previewOf p k c s t
 
 abbrev pub Promised : Plan → (c : Call) → Reply c → Type 0
 Promised p (change k c) r = r ≡ changeOf p k c

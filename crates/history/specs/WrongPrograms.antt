@@ -26,7 +26,7 @@ use Rattle.network_file.specs.Number.{readGroups, readNumber, groupBytes, numbe
 use Rattle.network_file.specs.Reading.{taken, linkAt, readLink, readLinks, readAll, readFile}
 use Rattle.network_file.specs.Writing.{linkBytes, fileOf}
 use Rattle.cut_tree.specs.Rule.{moved, stepped, ruleBy, leastCut, rule, noTree}
-use Rattle.cut_tree.specs.Rebuild.{keptBy, keptOrLeastBy, rebuiltBy, rebuilt}
+use Rattle.cut_tree.specs.Rebuild.{keptBy, keptOrLeastBy, rebuiltBy, rebuilt, notKeptBy, notKept}
 use Rattle.cut_tree.specs.Path.{reaches, climb, lightestOf, lightestOn, sideOf, answer, weightOf, nodeOf}
 use Rattle.cut_tree.specs.LightestEdge.{lightestAmong}
 use Rattle.cut_tree.specs.Definition1.{CutTree}
@@ -36,7 +36,7 @@ use Rattle.cut_tree.specs.declared.PairAnswer.{PairAnswer}
 use Rattle.plan.specs.Plan.{maxDepth, treeFits, stepsFit, stackFits, sound, noStack, push, planOf, planWith}
 use Rattle.plan.specs.Calls.{openOf, changeNumber, altered, changeOf, pairNumber, pairOf, flowNumber, writeNumber}
 use Rattle.plan.specs.Calls.{writeOf, writtenTo}
-use Rattle.history.specs.Machine.{change, undo, pair, flow, State, begin, refusal, next, state, ask}
+use Rattle.history.specs.Machine.{change, undo, pair, flow, preview, State, begin, refusal, next, state, ask}
 use Rattle.history.specs.Run.{Event, callsOf, Promised, planAfter, left}
 use Rattle.history.specs.History.{AtCall, Replies, Reopens, Demand3}
 use Rattle.history.specs.Whole.{opens-every-network}
@@ -45,6 +45,7 @@ use Rattle.history.specs.examples.FlowA.{eight, eight-lawful, eight-tota
 use Rattle.plan.specs.declared.Plan.{Plan}
 use Rattle.plan.specs.declared.Opening.{Opening}
 use Rattle.plan.specs.declared.Changed.{Changed}
+use Rattle.plan.specs.declared.PreviewReply.{PreviewReply}
 
 abbrev changing : (k c : ℕ) → Changed → Event
 changing k c r = record { call = change k c; reply = r }
@@ -244,3 +245,14 @@ shows-one-node r q d =
       ap nodeOf (here .if-accepted (here .number) .by-rule),
       ap nodeOf (there .if-accepted (there .number) .by-rule),
     )
+
+-- ---- a preview that asks the pair of the plan before, of weight 6 for (1, 3), or counts what its undo would not keep,
+-- three: P4's tree has weight 8 there, and two steps are not kept
+pub previews-the-change : (r : PreviewReply) → Demand3 planA (record { call = ask (preview 3 4 1 3); reply = r } ∷ [])
+    → (weightOf (r .answer) ≡ 8) × (r .count ≡ 2)
+unfolding refusal next sum cutValue holds first leastMinCut word moved stepped ruleBy leastCut rule keptBy keptOrLeastBy
+    notKeptBy notKept climb among lightestOn lightestOf sideOf answer size
+previews-the-change r d =
+    let here = d .replies .0 in
+    let right = here .if-accepted (here .number) in
+    (ap weightOf (right .pair .by-rule), right .count .counted)

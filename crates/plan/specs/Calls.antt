@@ -20,7 +20,7 @@ use Rattle.cut_tree.specs.Rule.{rule}
 use Rattle.cut_tree.specs.Rebuild.{rebuilt}
 use Rattle.cut_tree.specs.Path.{pairRows, answer, weightOf}
 use Rattle.cut_tree.specs.declared.PairAnswer.{PairAnswer}
-use Rattle.cut_tree.specs.declared.PairAnswer.the-variants.{Refused}
+use Rattle.cut_tree.specs.declared.PairAnswer.the-variants.{Refused, Found}
 use Rattle.network.specs.Refusals.{noSuchLink, capacityTooLarge, stackFull, nothingToUndo, flowLength}
 use Rattle.network.specs.Refusals.{demandTooLarge, bufferTooShort, notSound}
 use Rattle.plan.specs.Plan.{maxDepth, sound, push, pop, planOf, noStack, noPlan}
@@ -29,6 +29,7 @@ use Rattle.plan.specs.declared.Stack.{Stack}
 use Rattle.plan.specs.declared.Plan.{Plan}
 use Rattle.plan.specs.declared.Opening.{Opening}
 use Rattle.plan.specs.declared.Changed.{Changed}
+use Rattle.plan.specs.declared.PreviewReply.{PreviewReply}
 use Rattle.plan.specs.declared.HeadroomReply.{HeadroomReply}
 use Rattle.plan.specs.declared.Written.{Written}
 
@@ -56,19 +57,20 @@ openOf file = opened (readFile file)
 abbrev pub unsound : Plan → Row
 unsound p = row (not (sound p)) notSound
 
-abbrev pub changeRows : Plan → ℕ → ℕ → List Row
-changeRows p k c =
+-- the checks of a change, and those that come after them
+abbrev pub changeRows : Plan → (k c : ℕ) → List Row → List Row
+changeRows p k c later =
     unsound p
     ∷ row (not (ltb k (p .network .links))) noSuchLink
     ∷ row (ltb maxCapacity c) capacityTooLarge
     ∷ row (eqb (p .stack .depth) maxDepth) stackFull
-    ∷ []
+    ∷ later
 
 abbrev pub undoRows : Plan → List Row
 undoRows p = unsound p ∷ row (eqb (p .stack .depth) 0) nothingToUndo ∷ []
 
 unfoldable pub changeNumber : Plan → ℕ → ℕ → ℕ
-changeNumber p k c = chain (changeRows p k c)
+changeNumber p k c = chain (changeRows p k c [])
 
 unfoldable pub undoNumber : Plan → ℕ
 undoNumber p = chain (undoRows p)
@@ -108,6 +110,30 @@ pairNumber p s t = chain (nodeRows p s t [])
 
 unfoldable pub pairOf : Plan → ℕ → ℕ → PairAnswer
 pairOf p s t = accepted (pairNumber p s t) (answer (p .tree) (p .network .nodes) s t) Refused
+
+-- ---- preview (the paper: trial)
+-- refused: a count of 0
+abbrev pub noPreview : (number : ℕ) → PreviewReply
+noPreview number = record { answer = Refused number; count = 0 }
+
+-- a pair's answer, with a change's count
+abbrev pub previewBy : PairAnswer → (count : ℕ) → PreviewReply
+previewBy (Refused e) count = noPreview e
+previewBy (Found w v side size) count = record { answer = Found w v side size; count = count }
+
+-- "Its reply is the one a change followed by a pair call gives on a copy, with the count of steps not kept." A change
+-- that is refused is not followed.
+unfoldable pub previewOf : Plan → (k c s t : ℕ) → PreviewReply
+previewOf p k c s t =
+    let copy = changeOf p k c in
+    accepted (copy .number) (previewBy (pairOf (copy .plan) s t) (copy .count)) noPreview
+
+-- its checks (docs/SCOPE.md, 8): the change's, then the pair's, of the plan that is given
+abbrev pub previewRows : Plan → (k c s t : ℕ) → List Row
+previewRows p k c s t = changeRows p k c (pairRows (p .network .nodes) s t [])
+
+unfoldable pub previewNumber : Plan → (k c s t : ℕ) → ℕ
+previewNumber p k c s t = chain (previewRows p k c s t)
 
 -- ---- flow
 abbrev pub flowRows : Plan → (s t size : ℕ) → List Row

@@ -8,6 +8,8 @@ pub mod Numbers
 pub mod BothEnds
 -- and that opening, change and undo keep the lightest tree edge true
 pub mod KeepsLightest
+-- and that a change leaves a sound plan sound
+pub mod KeepsSound
 -- what contracts of the code cite
 pub mod code
 -- worked examples

@@ -23,19 +23,22 @@ use Rattle.network_file.specs.Files.{refusals}
 use Rattle.network_file.specs.Reading.{readFile}
 use Rattle.network_file.specs.Writing.{fileOf}
 use Rattle.cut_tree.specs.Rebuilds.{rebuilt-most}
-use Rattle.cut_tree.specs.Path.{answer, numberOf}
+use Rattle.cut_tree.specs.Path.{pairRows, answer, numberOf}
 use Rattle.cut_tree.specs.declared.PairAnswer.the-variants.{Refused}
 use Rattle.text.specs.Text.{textWidth}
 use Rattle.base.specs.Basics.{at}
 use Rattle.plan.specs.Plan.{maxDepth, sound, push, pop, noPlan}
 use Rattle.plan.specs.Calls.{maxDemand, fresh, notOpened, openOf, changeRows, undoRows, changeNumber, undoNumber}
 use Rattle.plan.specs.Calls.{altered, unaltered, changed, undone, changeOf, undoOf, nodeRows, pairNumber, pairOf}
+use Rattle.plan.specs.Calls.{noPreview, previewOf, previewRows, previewNumber}
+use Rattle.plan.specs.laws.PreviewLaws.{shown, preview-is}
 use Rattle.plan.specs.Calls.{flowRows, flowNumber, Flowed, headroomRows, headroomNumber, noHeadroom, headroomOf}
 use Rattle.plan.specs.Calls.{writeRows, writeNumber, notWritten, writeOf, writtenTo}
 use Rattle.plan.specs.declared.Stack.{Stack}
 use Rattle.plan.specs.declared.Plan.{Plan}
 use Rattle.plan.specs.declared.Opening.{Opening}
 use Rattle.plan.specs.declared.Changed.{Changed}
+use Rattle.plan.specs.declared.PreviewReply.{PreviewReply}
 use Rattle.plan.specs.declared.HeadroomReply.{HeadroomReply}
 use Rattle.plan.specs.declared.Written.{Written}
 
@@ -46,14 +49,15 @@ unfolding altered
 count-most p zero k c stack = rebuilt-most (p .network) (p .steps) k c
 count-most p (suc e) k c stack = omega arith
 
-abbrev pub changeTable : (p : Plan) (k c : ℕ) → Meaning (changeRows p k c)
-changeTable p k c =
+-- the rows of a change, and the table of those behind them
+abbrev pub changeTable : (p : Plan) (k c : ℕ) {rs : List Row} → Meaning rs → Meaning (changeRows p k c rs)
+changeTable p k c later =
     means notSound (sound p ≡ false) (sound p ≡ true) (failing (sound p)) (holding (sound p))
     (means noSuchLink (p .network .links ≤ k) (k < p .network .links) (not-below k (p .network .links))
     (below k (p .network .links))
     (means capacityTooLarge (maxCapacity < c) (c ≤ maxCapacity) (above maxCapacity c) (not-above maxCapacity c)
     (means stackFull (p .stack .depth ≡ maxDepth) (p .stack .depth ≢ maxDepth) (equal _ _) (not-equal _ _)
-    end)))
+    later)))
 
 module _ (p : Plan) (k c : ℕ) where
   change-is : changeOf p k c .number ≡ changeNumber p k c
@@ -61,9 +65,9 @@ module _ (p : Plan) (k c : ℕ) where
   change-is =
       number-kept (λ (r : Changed). r .number) (changeNumber p k c) (changed p k c) (unaltered p) refl (λ n. refl)
 
-  pub change-numbered : Numbered (changeTable p k c) (changeOf p k c .number)
+  pub change-numbered : Numbered (changeTable p k c end) (changeOf p k c .number)
   unfolding changeNumber positive
-  change-numbered = numbered (changeTable p k c) change-is refl
+  change-numbered = numbered (changeTable p k c end) change-is refl
 
   -- refused: the plan as before, the count 0
   pub change-refused : changeOf p k c .number ≢ 0 → (changeOf p k c .plan ≡ p) × (changeOf p k c .count ≡ 0)
@@ -111,14 +115,19 @@ module _ (p : Plan) where
 abbrev pub AreNodes : Plan → (s t : ℕ) → Type 0
 AreNodes p s t = (s < p .network .nodes) × (t < p .network .nodes)
 
--- the rows of every call for two nodes, and the table of those behind them
+-- the rows of two nodes, and the table of those behind them
+abbrev pub pairTable : (p : Plan) (s t : ℕ) {rs : List Row} → Meaning rs
+    → Meaning (pairRows (p .network .nodes) s t rs)
+pairTable p s t later =
+    let n = p .network .nodes in
+    means noSuchNode (¬ (AreNodes p s t)) (AreNodes p s t) (one-not-below s t n) (both-below s t n)
+    (means sameNode (s ≡ t) (s ≢ t) (equal s t) (not-equal s t)
+    later)
+
+-- those of a call for two nodes
 abbrev pub nodeTable : (p : Plan) (s t : ℕ) {rs : List Row} → Meaning rs → Meaning (nodeRows p s t rs)
 nodeTable p s t later =
-    let n = p .network .nodes in
-    means notSound (sound p ≡ false) (sound p ≡ true) (failing (sound p)) (holding (sound p))
-    (means noSuchNode (¬ (AreNodes p s t)) (AreNodes p s t) (one-not-below s t n) (both-below s t n)
-    (means sameNode (s ≡ t) (s ≢ t) (equal s t) (not-equal s t)
-    later))
+    means notSound (sound p ≡ false) (sound p ≡ true) (failing (sound p)) (holding (sound p)) (pairTable p s t later)
 
 module _ (p : Plan) (s t : ℕ) where
   pair-is : numberOf (pairOf p s t) ≡ pairNumber p s t
@@ -135,6 +144,37 @@ module _ (p : Plan) (s t : ℕ) where
   pair-refused d =
       refused-by (pairNumber p s t) (answer (p .tree) (p .network .nodes) s t) Refused (rw pair-is at d)
       ∙ ap Refused (sym pair-is)
+
+-- ---- preview: the change's rows, then the pair's
+abbrev pub previewTable : (p : Plan) (k c s t : ℕ) → Meaning (previewRows p k c s t)
+previewTable p k c s t = changeTable p k c (pairTable p s t end)
+
+module _ (p : Plan) (k c s t : ℕ) where
+  preview-number : numberOf (previewOf p k c s t .answer) ≡ previewNumber p k c s t
+  unfolding answer
+  preview-number =
+      ap (λ (r : PreviewReply). numberOf (r .answer)) (preview-is p k c s t)
+      ∙ number-kept (λ (r : PreviewReply). numberOf (r .answer)) (previewNumber p k c s t) (shown p k c s t) noPreview
+      refl (λ n. refl)
+
+  pub preview-numbered : Numbered (previewTable p k c s t) (numberOf (previewOf p k c s t .answer))
+  unfolding previewNumber positive
+  preview-numbered = numbered (previewTable p k c s t) preview-number refl
+
+  -- refused: nothing but the number, and the count 0
+  pub preview-refused : numberOf (previewOf p k c s t .answer) ≢ 0
+      → previewOf p k c s t ≡ noPreview (numberOf (previewOf p k c s t .answer))
+  preview-refused d =
+      preview-is p k c s t ∙ refused-by (previewNumber p k c s t) (shown p k c s t) noPreview (rw preview-number at d)
+      ∙ ap noPreview (sym preview-number)
+
+  pub preview-most : previewOf p k c s t .count ≤ p .network .nodes - 1
+  unfolding answer
+  preview-most = rw (preview-is p k c s t) (go (previewNumber p k c s t))
+    where
+      go : (e : ℕ) → accepted e (shown p k c s t) noPreview .count ≤ p .network .nodes - 1
+      go zero = rebuilt-most (p .network) (p .steps) k c
+      go (suc e) = omega arith
 
 -- ---- flow: the number that its contract gives, and the buffer before and behind it
 abbrev pub flowTable : (p : Plan) (s t size : ℕ) → Meaning (flowRows p s t size)

@@ -6,4 +6,7 @@ pub mod SoundFacts
 pub mod AnswersLaws
 pub mod FlowsLaws
 pub mod ChangesLaws
+pub mod PushLaws
+pub mod AlteredLaws
+pub mod PreviewLaws
 pub mod FilesLaws

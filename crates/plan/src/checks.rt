@@ -1,4 +1,4 @@
-// Refusals of change and undo, in the order of the table of checks; 0 where there is none.
+// Refusals of change, undo and preview, in the order of the table of checks; 0 where there is none.
 use crate::MAX_DEPTH;
 use crate::Plan;
 use crate::sound::is_sound;
@@ -9,7 +9,7 @@ use network::NOT_SOUND;
 use network::NOTHING_TO_UNDO;
 use network::STACK_FULL;
 ghost use mathlib.Core.Path.{_≡_};
-ghost use Rattle.plan.specs.Calls.{changeNumber, undoNumber};
+ghost use Rattle.plan.specs.Calls.{changeNumber, undoNumber, previewNumber};
 
 pub fn change_number(p: Plan, k: usize, c: u32) -> u32
     ensures { λ r. ⌜ r ≡ changeNumber p k c ⌝ }
@@ -39,4 +39,15 @@ pub fn undo_number(p: Plan) -> u32
         return NOTHING_TO_UNDO;
     }
     0
+}
+
+// A change's, and then a pair's.
+pub fn preview_number(p: Plan, k: usize, c: u32, s: usize, t: usize) -> u32
+    ensures { λ r. ⌜ r ≡ previewNumber p k c s t ⌝ }
+{
+    let number = change_number(p, k, c);
+    if number != 0 {
+        return number;
+    }
+    cut_tree::query_number(p.network.nodes, s, t)
 }

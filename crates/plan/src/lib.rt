@@ -2,10 +2,11 @@
 // is the definition of its name in specs/Calls.antt, and holds of every input.
 mod answers; // pairs and headrooms
 mod changes; // change and undo
-mod checks; // refusals of change and undo
+mod checks; // refusals of change, undo and preview
 mod entries; // the stack's entries, pushed and popped
 mod files; // opening and writing
 mod flows; // the flow call
+mod previews; // a pair as a change would leave it
 mod sound; // number 19: the shape of a plan
 
 pub use crate::answers::MAX_DEMAND;
@@ -16,7 +17,9 @@ pub use crate::changes::undo;
 pub use crate::files::open;
 pub use crate::files::write;
 pub use crate::flows::flow;
+pub use crate::previews::preview;
 use cut_tree::Edge;
+use cut_tree::PairAnswer;
 use cut_tree::Steps;
 use cut_tree::Tree;
 use network::Network;
@@ -57,6 +60,12 @@ pub struct Changed {
     pub number: u32,
     pub count: u32,
     pub plan: Plan,
+}
+
+// The number is the answer's.
+pub struct PreviewReply {
+    pub answer: PairAnswer,
+    pub count: u32,
 }
 
 #[repr(C)]

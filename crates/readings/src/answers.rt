@@ -1,16 +1,15 @@
 // Commands that ask the plan.
 use crate::line::Given;
 use crate::print::put;
-use crate::print::put_bytes;
 use crate::print::put_number;
 use crate::print::put_refusal;
 use crate::print::put_signed;
 use cut_tree::PairAnswer;
 use plan::Plan;
 
-// `pair S T`: the weight, the node whose parent edge it is, the side as a number, and how many nodes the side has.
-pub fn pair(plan: Plan, given: Given) {
-    match plan::pair(plan, given.first as usize, given.second as usize) {
+// The weight, the node whose parent edge it is, the side as a number, and how many nodes the side has; or the refusal.
+fn put_answer(answer: PairAnswer) {
+    match answer {
         PairAnswer::Refused(number) => put_refusal(number),
         PairAnswer::Found {
             weight,
@@ -24,6 +23,25 @@ pub fn pair(plan: Plan, given: Given) {
             put_number(b" size ", size as u64);
         }
     }
+}
+
+// `pair S T`
+pub fn pair(plan: Plan, given: Given) {
+    put_answer(plan::pair(plan, given.first as usize, given.second as usize));
+}
+
+// `view LINK CAPACITY S T`: a preview, the pair's answer and the change's count.
+pub fn preview(plan: Plan, given: Given) {
+    let reply = plan::preview(
+        plan,
+        given.first as usize,
+        given.second,
+        given.third as usize,
+        given.fourth as usize,
+    );
+    let answer = reply.answer;
+    put_answer(answer);
+    put_number(b" not kept ", reply.count as u64);
 }
 
 // `headroom S T DEMAND`: the value, and the text between brackets.

@@ -8,11 +8,12 @@ pub struct Bytes {
     pub bytes: [u8; 64],
 }
 
-// The first three arguments, as numbers.
+// The first four arguments, as numbers.
 pub struct Given {
     pub first: u32,
     pub second: u32,
     pub third: u32,
+    pub fourth: u32,
 }
 
 // Where x stands for the first time from a place on, or the text's end.
@@ -91,6 +92,7 @@ pub fn numbers(line: &[u8], from: usize) -> Given {
         first: number(line, from, 0),
         second: number(line, from, 1),
         third: number(line, from, 2),
+        fourth: number(line, from, 3),
     }
 }
 

@@ -2,7 +2,7 @@
 // command and its arguments, as in `n 64: open 40 00` or `P3: change 1 1`; of the command only the first letter counts.
 // A command works on the plan that the lines before it left; at first there is none, which is a plan of all zeros. What
 // must come of each line is in the file stdout.
-mod answers; // commands that ask the plan: pair, headroom
+mod answers; // commands that ask the plan: pair, view (a preview), headroom
 mod bend; // the command that sets one number of the plan by hand
 mod changes; // commands that change the plan: change, undo, repeat, drain
 mod files; // commands that open a file: open, longest, many
@@ -23,6 +23,7 @@ fn tell(plan: Plan, command: u8, given: Given) {
         b's' => show::steps(plan),
         b'n' => show::network(plan),
         b'p' => answers::pair(plan, given),
+        b'v' => answers::preview(plan, given),
         b'h' => answers::headroom(plan, given),
         b'f' => flows::flow(plan, given),
         b'w' => writing::write(plan, given),

@@ -80,7 +80,7 @@ pub fn undo_right(p: Plan, x: Machine, reply: Changed) -> bool {
     accepted_right(p, reply, h, undone(x))
 }
 
-fn has_number(answer: PairAnswer, number: u32) -> bool {
+pub fn has_number(answer: PairAnswer, number: u32) -> bool {
     match answer {
         PairAnswer::Refused(e) => e == number,
         PairAnswer::Found {

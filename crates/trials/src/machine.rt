@@ -55,6 +55,15 @@ pub fn pair_number(x: Machine, s: usize, t: usize) -> u32 {
     if s == t { 15 } else { 0 }
 }
 
+// That of a change, and then that of a pair.
+pub fn preview_number(x: Machine, k: usize, c: u32, s: usize, t: usize) -> u32 {
+    let number = change_number(x, k, c);
+    if number != 0 {
+        return number;
+    }
+    pair_number(x, s, t)
+}
+
 pub fn flow_number(x: Machine, s: usize, t: usize, length: usize) -> u32 {
     let number = pair_number(x, s, t);
     if number != 0 {

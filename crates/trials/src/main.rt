@@ -10,6 +10,7 @@ mod lightest; // the lightest edge
 mod machine; // the history as a plain machine
 mod pairs; // answers for pairs
 mod plans; // histories of plans
+mod previews; // previews of changes
 mod random; // random networks
 mod same; // equal records
 mod sides; // a trial of every side
@@ -21,5 +22,6 @@ fn main() {
     tally::print(b"tree", trees::try_trees(300));
     let plans = plans::try_plans(100);
     tally::print(b"plan", plans);
-    tally::print_refusals(plans);
+    tally::print_refusals(b"refusals", plans.numbers);
+    tally::print_refusals(b"refusals of previews", plans.preview_numbers);
 }

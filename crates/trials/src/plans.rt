@@ -17,9 +17,11 @@ use crate::machine::changed;
 use crate::machine::flow_number;
 use crate::machine::headroom_number;
 use crate::machine::pair_number;
+use crate::machine::preview_number;
 use crate::machine::started;
 use crate::machine::undo_number;
 use crate::machine::undone;
+use crate::previews::preview_right;
 use crate::random::apart;
 use crate::random::draw;
 use crate::random::draw_network;
@@ -36,6 +38,7 @@ use crate::tally::count_call;
 use crate::tally::count_list;
 use crate::tally::count_network;
 use crate::tally::count_pair;
+use crate::tally::count_preview;
 use crate::tally::nothing;
 use network::MAX_CAPACITY;
 use network::MAX_LINKS;
@@ -182,11 +185,29 @@ fn some_demand(v: usize) -> u32 {
     }
 }
 
-// A call of a list. Lists of mood 0 are mostly changes, those of mood 1 mostly undos, the others mixed.
+// A preview of a change that may be refused, for nodes that may be none or equal. Its draws are not those of the calls.
+fn try_preview(run: Run) -> Run {
+    let x = run.machine;
+    let v = apart(run.state);
+    let w = next(v);
+    let z = next(apart(w));
+    let n = x.network.nodes % 65;
+    let k = some_link(v, x);
+    let c = some_capacity(w, x, k);
+    let s = draw(z, n);
+    let t = draw(next(z), n);
+    let right = preview_right(run.plan, x, k, c, s, t);
+    let tally = count_preview(run.tally, preview_number(x, k, c, s, t), right);
+    let mut after = run;
+    after.tally = tally;
+    after
+}
+
+// A preview, then a call. Lists of mood 0 are mostly changes, those of mood 1 mostly undos, the others mixed.
 fn one_call(run: Run, mood: usize) -> Run {
     let v = next(run.state);
     let w = next(v);
-    let here = moved(run, next(w));
+    let here = moved(try_preview(run), next(w));
     let kind = draw(v, 15);
     if kind < 3 {
         return try_question(here, kind, w);

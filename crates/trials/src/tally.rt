@@ -7,10 +7,13 @@ pub struct Tally {
     pub changes: u64,
     pub lists: u64,
     pub calls: u64,
+    pub previews: u64,
+    pub refused_previews: u64,
     pub pairs: u64,
     pub wrong: u64,
-    // bit e for each number e that a call was answered with
+    // bit e for each number e that a call was answered with, and the same of previews
     pub numbers: u32,
+    pub preview_numbers: u32,
 }
 
 pub fn nothing() -> Tally {
@@ -19,9 +22,12 @@ pub fn nothing() -> Tally {
         changes: 0,
         lists: 0,
         calls: 0,
+        previews: 0,
+        refused_previews: 0,
         pairs: 0,
         wrong: 0,
         numbers: 0,
+        preview_numbers: 0,
     }
 }
 
@@ -59,6 +65,18 @@ pub fn count_call(t: Tally, number: u32, right: bool) -> Tally {
     next
 }
 
+// Accepted previews are counted apart from refused ones.
+pub fn count_preview(t: Tally, number: u32, right: bool) -> Tally {
+    let mut next = judged(t, right);
+    next.preview_numbers = t.preview_numbers | (1u32 << (number % 32));
+    if number == 0 {
+        next.previews = wrapping_add_u64(t.previews, 1);
+    } else {
+        next.refused_previews = wrapping_add_u64(t.refused_previews, 1);
+    }
+    next
+}
+
 pub fn count_pair(t: Tally, right: bool) -> Tally {
     let mut next = judged(t, right);
     next.pairs = wrapping_add_u64(t.pairs, 1);
@@ -81,6 +99,8 @@ pub fn print(name: &[u8], t: Tally) {
     print_count(t.changes, b" changes");
     print_count(t.lists, b" lists");
     print_count(t.calls, b" calls");
+    print_count(t.previews, b" previews");
+    print_count(t.refused_previews, b" refused previews");
     print_count(t.pairs, b" pairs");
     io::write_all(STDOUT_FILENO, b" ");
     io::print_decimal(STDOUT_FILENO, t.wrong);
@@ -94,11 +114,11 @@ fn print_number(numbers: u32, e: u32) {
     }
 }
 
-// The refusal numbers that came.
-pub fn print_refusals(t: Tally) {
-    io::write_all(STDOUT_FILENO, b"refusals");
+// Words, and the refusal numbers that came.
+pub fn print_refusals(words: &[u8], numbers: u32) {
+    io::write_all(STDOUT_FILENO, words);
     for e in 1..32 {
-        print_number(t.numbers, e);
+        print_number(numbers, e);
     }
     io::write_all(STDOUT_FILENO, b"\n");
 }

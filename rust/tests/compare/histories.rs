@@ -1,68 +1,13 @@
 //! Histories: each call is made on a held plan and on the model, and compared at once, with all that the plan then
 //! holds.
+use crate::calls::{Call, random_call};
 use crate::cases;
 use crate::model::{self, Plan};
+use crate::previews::Seen;
 use crate::random::Random;
-use crate::same::{pair_reply, same_plan};
-use pamzolit::{Link, Node, Refusal};
-
-#[derive(Clone, Copy, Debug)]
-enum Call {
-    Change { link: usize, capacity: u32 },
-    Undo,
-    Pair { s: usize, t: usize },
-    Flow { s: usize, t: usize, length: usize },
-    Headroom { s: usize, t: usize, demand: u32 },
-    Write { length: usize },
-}
-
-/// A number below `count` most of the time, else one that is not, far away or with the low bits of one that is.
-fn index(random: &mut Random, count: usize) -> usize {
-    if count > 0 && !random.chance(5) {
-        return random.below(count);
-    }
-    match random.below(4) {
-        0 => usize::MAX - random.below(2),
-        1 => (1 << 32) + random.below(count + 1),
-        2 => (1 << (8 + random.below(8))) + count,
-        _ => count + random.below(3),
-    }
-}
-
-fn random_call(random: &mut Random, plan: &Plan) -> Call {
-    let (n, m) = (plan.net.nodes, plan.net.links.len());
-    match random.below(16) {
-        0..=5 => Call::Change {
-            link: index(random, m),
-            capacity: match random.below(20) {
-                0 => 1_000_001 + random.below(9) as u32,
-                1 => u32::MAX - random.below(2) as u32,
-                _ => random.capacity(),
-            },
-        },
-        6..=8 => Call::Undo,
-        9 | 10 => Call::Pair { s: index(random, n), t: index(random, n) },
-        11 | 12 => Call::Flow {
-            s: index(random, n),
-            t: index(random, n),
-            length: if random.chance(8) { random.below(300) } else { m },
-        },
-        13 | 14 => Call::Headroom {
-            s: index(random, n),
-            t: index(random, n),
-            demand: match random.below(4) {
-                0 => random.below(20) as u32,
-                1 => random.below(2_000_000) as u32,
-                2 => 1_000_000_000 + random.below(2) as u32,
-                _ => u32::MAX - random.below(2) as u32,
-            },
-        },
-        _ => {
-            let length = plan.net.file().len();
-            Call::Write { length: if random.chance(30) { random.below(2000) } else { length - 1 + random.below(3) } }
-        }
-    }
-}
+use crate::same::{pair_reply, preview_reply, same_plan};
+use pamzolit::{Link, Node, Preview, Refusal};
+use std::hint::black_box;
 
 fn numbered<T>(got: Result<T, Refusal>) -> Result<T, u32> {
     got.map_err(|e| e.number())
@@ -97,6 +42,15 @@ fn same_file(held: &pamzolit::Plan, want: &Plan, length: usize) -> bool {
     got == (if long { Ok(file.len()) } else { Err(18) }) && buffer == filled && held.write() == file
 }
 
+/// The reply is the model's, and that of a change followed by a pair on a copy.
+fn same_preview(held: &pamzolit::Plan, want: &Plan, (link, capacity): (usize, u32), s: usize, t: usize) -> bool {
+    let mut copy = held.clone();
+    let got = held.preview(Link(link), capacity, Node(s), Node(t));
+    let count = copy.change(Link(link), capacity);
+    let by_calls = count.and_then(|count| Ok(Preview { pair: copy.pair(Node(s), Node(t))?, count }));
+    preview_reply(got) == want.preview(link, capacity, s, t) && got == by_calls
+}
+
 /// Makes a call on both and says whether they agree.
 fn agrees(held: &mut pamzolit::Plan, want: &mut Plan, call: Call) -> bool {
     match call {
@@ -106,6 +60,7 @@ fn agrees(held: &mut pamzolit::Plan, want: &mut Plan, call: Call) -> bool {
             let got = held.pair(Node(s), Node(t));
             pair_reply(got) == want.pair(s, t) && got.map_or(true, |p| p.side.len() == p.size)
         }
+        Call::Preview { link, capacity, s, t } => same_preview(held, want, (link, capacity), s, t),
         Call::Flow { s, t, length } => same_flow(held, want, s, t, length),
         Call::Headroom { s, t, demand } => {
             let got = numbered(held.headroom(Node(s), Node(t), demand));
@@ -126,60 +81,81 @@ fn same_when_reopened(held: &pamzolit::Plan) -> bool {
         && held.lightest() == fresh.lightest()
 }
 
-/// A history on a random network. Says how many calls it had.
-fn one_history(random: &mut Random, most_nodes: usize, most_links: usize, most_calls: usize) -> usize {
+/// Whether a call that only asks has left all that the plan's memory holds. The compiler takes that for granted of a
+/// plan that is lent for reading; the black boxes keep it from leaving the comparison out.
+fn leaves(held: &pamzolit::Plan, before: &pamzolit::Plan, call: Call) -> bool {
+    matches!(call, Call::Change { .. } | Call::Undo) || black_box(held) == before
+}
+
+/// A history on a random network.
+fn one_history(random: &mut Random, most_nodes: usize, most_links: usize, most_calls: usize, seen: &mut Seen) {
     let file = random.network(most_nodes, most_links).file();
     let mut held = pamzolit::Plan::open(&file).unwrap();
     let mut want = Plan::open(&file).unwrap();
+    let filling = random.chance(25);
     let mut calls = Vec::new();
     for _ in 0..random.below(most_calls + 1) {
-        let call = random_call(random, &want);
+        let call = random_call(random, &want, filling);
         calls.push(call);
-        let right = agrees(&mut held, &mut want, call) && same_plan(&held, &want);
+        seen.count(&want, call);
+        let before = black_box(held.clone());
+        let agree = agrees(&mut held, &mut want, call);
+        let right = agree && same_plan(&held, &want) && leaves(&held, &before, call);
         assert!(right, "file {file:02x?}, the last of {calls:?}: {held:?}");
     }
     assert!(same_when_reopened(&held), "file {file:02x?}, after {calls:?}");
-    calls.len()
 }
 
 #[test]
 fn histories() {
     let total = cases("PAMZOLIT_HISTORIES", 20_000);
     let mut random = Random::new(3);
-    let calls: usize = (0..total).map(|_| one_history(&mut random, 7, 12, 24)).sum();
-    println!("{total} histories of {calls} calls, 0 disagreements");
-    assert!(calls > total);
+    let mut seen = Seen::default();
+    for _ in 0..total {
+        one_history(&mut random, 7, 12, 24, &mut seen);
+    }
+    // too short to fill a stack
+    seen.must_have(&[0, 10, 11, 14, 15]);
+    assert!(seen.calls > total);
 }
 
 #[test]
 fn long_histories() {
     let mut random = Random::new(4);
+    let mut seen = Seen::default();
     for _ in 0..cases("PAMZOLIT_HISTORIES", 20_000) / 200 {
-        one_history(&mut random, 5, 8, 400);
+        one_history(&mut random, 5, 8, 400, &mut seen);
     }
+    seen.must_have(&[0, 10, 11, 12, 14, 15]);
 }
 
 #[test]
 fn large_histories() {
     let mut random = Random::new(5);
+    let mut seen = Seen::default();
     for _ in 0..cases("PAMZOLIT_HISTORIES", 20_000) / 400 {
-        one_history(&mut random, 40, 90, 12);
+        one_history(&mut random, 40, 90, 12, &mut seen);
     }
+    assert!(seen.previews[0] > 10, "{seen:?}");
 }
 
 #[test]
 fn a_full_stack() {
     let mut held = pamzolit::Plan::open(&[2, 1, 0, 1, 3]).unwrap();
     let first = held.clone();
+    let shown = |held: &pamzolit::Plan| held.preview(Link(0), 64, Node(0), Node(1)).map(|p| p.pair.weight);
     for capacity in 0..64 {
+        assert_eq!(shown(&held), Ok(64));
         assert!(held.change(Link(0), capacity).is_ok());
     }
     let full = held.clone();
     assert_eq!(held.change(Link(0), 64), Err(Refusal::StackFull));
+    assert_eq!(shown(&held), Err(Refusal::StackFull));
     assert!(held == full && held.changes().len() == 64);
     for capacity in (0..64).rev() {
         assert_eq!(held.pair(Node(0), Node(1)).map(|p| p.weight), Ok(capacity));
         assert!(held.undo().is_ok());
+        assert_eq!(shown(&held), Ok(64));
     }
     assert_eq!(held.undo(), Err(Refusal::NothingToUndo));
     assert!(held == first);

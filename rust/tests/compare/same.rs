@@ -1,6 +1,6 @@
-//! Whether what a plan holds is what the model holds, and a pair's reply as the model gives it.
+//! Whether what a plan holds is what the model holds, and replies of pairs and previews as the model gives them.
 use crate::model;
-use pamzolit::{Change, Link, LinkState, Node, Pair, Refusal, Side, Step, TreeEdge};
+use pamzolit::{Change, Link, LinkState, Node, Pair, Preview, Refusal, Side, Step, TreeEdge};
 
 fn links(plan: &model::Plan) -> Vec<LinkState> {
     let state = |(k, &(a, b, capacity))| LinkState { link: Link(k), a: Node(a), b: Node(b), capacity };
@@ -40,7 +40,13 @@ pub fn same_plan(held: &pamzolit::Plan, want: &model::Plan) -> bool {
         && held.lightest() == lightest(want)
 }
 
-/// Weight, node, side, size; or the number of a refusal.
-pub fn pair_reply(got: Result<Pair, Refusal>) -> Result<(u64, usize, u64, u32), u32> {
+/// The pair; or the number of a refusal.
+pub fn pair_reply(got: Result<Pair, Refusal>) -> Result<model::Pair, u32> {
     got.map(|p| (p.weight as u64, p.node.0, p.side.bits(), p.size as u32)).map_err(|e| e.number())
+}
+
+/// The pair, and the count of steps not kept; or the number of a refusal.
+pub fn preview_reply(got: Result<Preview, Refusal>) -> Result<(model::Pair, u32), u32> {
+    let count = got.map_or(0, |p| p.count);
+    pair_reply(got.map(|p| p.pair)).map(|pair| (pair, count))
 }

@@ -189,6 +189,9 @@ pub struct Tree {
     pub below: Vec<u64>,
 }
 
+/// Weight, node, side, size.
+pub type Pair = (u64, usize, u64, u32);
+
 /// The set of v, its children, their children and so on.
 fn subtree(parent: &[usize], v: usize) -> u64 {
     let mut set = 1u64 << v;
@@ -248,8 +251,8 @@ impl Tree {
         if self.below[v] >> s & 1 == 1 { self.below[v] } else { self.below[0] & !self.below[v] }
     }
 
-    /// weight, node, side, size: of the path's edges the least by weight and then by number
-    pub fn pair(&self, s: usize, t: usize) -> (u64, usize, u64, u32) {
+    /// Of the path's edges the least by weight and then by number.
+    pub fn pair(&self, s: usize, t: usize) -> Pair {
         let (weight, node) = self.path(s, t).map(|v| (self.weight[v], v)).min().unwrap();
         let side = self.side(node, s);
         (weight, node, side, side.count_ones())
@@ -347,7 +350,7 @@ impl Plan {
         Ok(self.set(k, c))
     }
 
-    pub fn pair(&self, s: usize, t: usize) -> Result<(u64, usize, u64, u32), u32> {
+    pub fn pair(&self, s: usize, t: usize) -> Result<Pair, u32> {
         if s >= self.net.nodes || t >= self.net.nodes {
             return Err(14);
         }
@@ -355,6 +358,13 @@ impl Plan {
             return Err(15);
         }
         Ok(self.tree.pair(s, t))
+    }
+
+    /// A change followed by a pair on a copy: the pair's reply, and the change's count of steps not kept.
+    pub fn preview(&self, k: usize, c: u32, s: usize, t: usize) -> Result<(Pair, u32), u32> {
+        let mut copy = self.clone();
+        let count = copy.change(k, c)?;
+        Ok((copy.pair(s, t)?, count))
     }
 
     pub fn headroom(&self, s: usize, t: usize, demand: u32) -> Result<i64, u32> {

@@ -3,7 +3,7 @@ use Prim.Native.Nat.{ℕ, _≤_, _<_, zero, suc}
 use mathlib.Core.Path.{_≡_, refl, sym, ap, _∙_}
 use mathlib.Core.Logic.{_≢_, _↔_}
 use mathlib.Core.Bool.{Bool, true, false, not, _&&_, true≢false}
-use mathlib.Core.List.{List, [], _∷_}
+use mathlib.Core.List.{List, [], _∷_, _++_}
 use lib.Dec.{ltb, eqb}
 use borrow.Author.Tests.{ltb-true, ltb-false, eqb-true, eqb-false, not-true, not-false, lt-ltb, le-ltb, eq-eqb, ne-eqb}
 use Rattle.base.specs.Basics.{pick}
@@ -112,6 +112,12 @@ one-not-below s t n = (λ e l. true≢false (sym e ∙ both-below s t n .1 l), �
     go true e h = absurd (h (both-below s t n .0 (ap not e)))
     go false e h = refl
 
+pub first-outside : (s t n : ℕ) → n ≤ s → not (ltb s n && ltb t n) ≡ true
+first-outside s t n l = one-not-below s t n .1 (λ h. omega (arith, h .0))
+
+pub other-outside : (s t n : ℕ) → n ≤ t → not (ltb s n && ltb t n) ≡ true
+other-outside s t n l = one-not-below s t n .1 (λ h. omega (arith, h .1))
+
 -- ---- a reply by its number: accepted x, or refused
 pub number-kept : {A : Type 0} (number : A → ℕ) (e : ℕ) (x : A) (refused : ℕ → A) → number x ≡ 0 → ((n : ℕ) → number (refused n) ≡ n)
     → number (accepted e x refused) ≡ e
@@ -121,6 +127,19 @@ number-kept number (suc e) x refused z h = h (suc e)
 pub refused-by : {A : Type 0} (e : ℕ) (x : A) (refused : ℕ → A) → e ≢ 0 → accepted e x refused ≡ refused e
 refused-by zero x refused d = absurd (d refl)
 refused-by (suc e) x refused d = refl
+
+-- rows, and those behind them
+pub chain-on : (rs later : List Row) → positive rs ≡ true → chain (rs ++ later) ≡ accepted (chain rs) (chain later) (λ e. e)
+unfolding positive
+chain-on [] later z = refl
+chain-on (r ∷ rs) later z =
+    go (r .when) (r .number) (and-l _ _ z) (chain-on rs later (and-r (not (eqb (r .number) 0)) (positive rs) z))
+  where
+    go : (b : Bool) (n : ℕ) → not (eqb n 0) ≡ true → chain (rs ++ later) ≡ accepted (chain rs) (chain later) (λ e. e)
+        → check b n (chain (rs ++ later)) ≡ accepted (check b n (chain rs)) (chain later) (λ e. e)
+    go true zero u ih = absurd (true≢false (sym u))
+    go true (suc n) u ih = refl
+    go false n u ih = ih
 
 -- ---- rows that were passed
 module _ (b : Bool) (n later : ℕ) (e : check b (suc n) later ≡ 0) where

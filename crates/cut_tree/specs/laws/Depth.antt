@@ -16,6 +16,7 @@ use Rattle.base.specs.Word.{bit}
 use Rattle.min_cut.specs.GusfieldTree.{Tree as TreeOf}
 use Rattle.base.specs.Basics.{pick, at, among}
 use Rattle.cut_tree.specs.Path.{reaches, climb}
+use Rattle.cut_tree.specs.laws.RankLaws.{Ranked, ranked-reaches}
 
 module _ (G : Net) (n : ℕ) (parent : List ℕ) (w : ℕ → ℕ) (Z : ℕ → Side) (r : ℕ → ℕ) (T : TreeOf G n (at parent) w Z r) where
   inner : ℕ → Bool
@@ -47,22 +48,16 @@ module _ (G : Net) (n : ℕ) (parent : List ℕ) (w : ℕ → ℕ) (Z : ℕ → 
           go (no e) (yes b) = rw (T .down y x (omega arith) b l (λ q. d (sym q)))
           go (no e) (no b) = simp (lt-ltb 0 y (omega arith), le-ltb y n (omega arith))
 
-  reaches-deep : (left x : ℕ) → x < n → depth x ≤ left → reaches parent left x ≡ true
-  unfolding reaches
-  reaches-deep zero x m d = go (ℕ-discrete x 0)
-    where
-      go : Dec (x ≡ 0) → eqb x 0 ≡ true
-      go (yes e) = eq-eqb x 0 e
-      go (no e) = absurd (omega (arith, depth-up x (omega arith) m))
-  reaches-deep (suc left) x m d = go (ℕ-discrete x 0) (reaches-deep left (at parent x) (T .done x))
-    where
-      go : Dec (x ≡ 0) → (depth (at parent x) ≤ left → reaches parent left (at parent x) ≡ true)
-          → pick (eqb x 0) true (reaches parent left (at parent x)) ≡ true
-      go (yes e) f = rw (eq-eqb x 0 e)
-      go (no e) f = rw (ne-eqb x 0 e) (f (omega (arith, depth-up x (omega arith) m)))
+  ranked : Ranked (n - 1) parent
+  ranked = record {
+    rank = depth;
+    home = T .home;
+    most = λ x l. depth-le x;
+    falls = λ x p l. omega (arith, T .one, depth-up x p (omega (arith, T .one)));
+  }
 
   pub climb-ends : (left x : ℕ) → n - 1 ≤ left → x < n → reaches parent left x ≡ true
-  climb-ends left x l m = reaches-deep left x m (omega (arith, depth-le x))
+  climb-ends left x l m = ranked-reaches (n - 1) parent (λ y. omega (arith, T .done y)) ranked left x l (omega arith)
 
   through-deep : (v : ℕ) → 0 < v → v < n → (left x : ℕ) → x < n → depth x ≤ left → among v (climb parent left x) ≡ Z v x
   unfolding climb among

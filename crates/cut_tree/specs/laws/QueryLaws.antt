@@ -6,14 +6,16 @@ use mathlib.Core.List.{List, [], _∷_}
 use native.Mathlib.Omega.{arith}
 use native.Mathlib.Decide.{ℕ-discrete, decLt}
 use lib.Dec.{ltb, eqb}
-use borrow.Author.Tests.{eq-eqb, ne-eqb, lt-ltb, le-ltb}
+use borrow.Author.Tests.{eq-eqb, ne-eqb, lt-ltb, le-ltb, eqb-false}
 use Rattle.base.specs.laws.Bools.{bool2, or-pick}
+use Rattle.base.specs.laws.ChecksLaws.{both-below, refused-by, passed-row, later-rows}
 use Rattle.base.specs.Word.{holds}
 use Rattle.node_set.specs.Set.{empty, added, Counted}
 use Rattle.node_set.specs.Members.{holds-empty, holds-added}
 use Rattle.base.specs.Basics.{pick, at, differ, among}
 use Rattle.network.specs.Limits.{maxNodes}
-use Rattle.cut_tree.specs.Path.{maxClimb, reaches, Climbs, climb, under, onPath, lightestOn, sideOf, answer, queryOf}
+use Rattle.cut_tree.specs.Path.{maxClimb, reaches, Climbs, climb, under, onPath, lightestOn, sideOf, answer}
+use Rattle.cut_tree.specs.Path.{queryNumber, queryOf}
 use Rattle.cut_tree.specs.laws.MemberLaws.{among-head, among-later, among-on}
 use Rattle.cut_tree.specs.code.QueryParts.{Inside, Pair, climbTo, addedAll, lighter, lightestFrom}
 use Rattle.cut_tree.specs.laws.ClimbLaws.{inside-lt, inside-next, climb-nonzero, climb-closed, climbTo-among}
@@ -159,6 +161,12 @@ module _ (parent : List ℕ) (stop : ℕ) where
   up-below weight left i b h l = from-below weight maxNodes b (climbTo stop parent left i) l (climbTo-below left i h)
 
 -- ---- the answer
+pub query-nodes : (n s t r : ℕ) → r ≡ queryNumber n s t → r ≡ 0 → (s < n) × (t < n) × (s ≡ t → ⊥)
+query-nodes n s t r e z =
+    let q = sym e ∙ z in
+    let (l, m) = both-below s t n .0 (passed-row (not (ltb s n && ltb t n)) 13 _ q) in
+    (l, m, eqb-false s t (passed-row (eqb s t) 14 _ (later-rows (not (ltb s n && ltb t n)) 13 _ q)))
+
 module _ (tree : Tree) (n s t : ℕ) where
   pub refused-s : n ≤ s → Refused 14 ≡ queryOf tree n s t
   unfolding queryOf
@@ -176,11 +184,17 @@ module _ (tree : Tree) (n s t : ℕ) where
   unfolding queryOf
   query-answer l m d = rw (lt-ltb s n l, lt-ltb t n m, ne-eqb s t d)
 
-  pub answered : s < n → t < n → (s ≡ t → ⊥) → (v x size : ℕ) → v ≡ lightestOn tree s t → x ≡ sideOf (tree .parent) n v s → Counted x size
-      → Found (at (tree .weight) v) v x size ≡ queryOf tree n s t
-  unfolding queryOf answer
-  answered l m d v x size ev ex es =
-      rw (lt-ltb s n l, lt-ltb t n m, ne-eqb s t d, es .members n (rw ex (side-lt (tree .parent) n v s)), ex, ev)
+  -- r is the number that the code worked out
+  module _ (r : ℕ) (e : r ≡ queryNumber n s t) where
+    pub query-refused : (r ≡ 0 → ⊥) → Refused r ≡ queryOf tree n s t
+    unfolding queryOf
+    query-refused d = rw (← e) (sym (refused-by r (answer tree n s t) Refused d))
+
+    pub answered : r ≡ 0 → (v x size : ℕ) → v ≡ lightestOn tree s t → x ≡ sideOf (tree .parent) n v s → Counted x size
+        → Found (at (tree .weight) v) v x size ≡ queryOf tree n s t
+    unfolding queryOf answer
+    answered z v x size ev ex es =
+        rw (sym e ∙ z, es .members n (rw ex (side-lt (tree .parent) n v s)), ex, ev)
 
   pub pair-climbs : Climbs n (tree .parent) → s < n → t < n → Pair (tree .parent) s t
   pair-climbs h l m = record { count = n; climbs = h; from = l; to = m }

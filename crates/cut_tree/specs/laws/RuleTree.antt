@@ -1,47 +1,33 @@
 -- The rule keeps the invariant of Gusfield's tree: every placed node's subtree is a minimum cut between the node and its parent, and its
 -- value the weight.
-use mathlib.Core.Path.{_≡_, refl, sym, ap, subst, _∙_, fun-ext}
+use mathlib.Core.Path.{_≡_, refl, subst, _∙_, fun-ext}
 use mathlib.Core.Logic.{_≢_}
-use mathlib.Core.Bool.{Bool, true, false, _&&_}
+use mathlib.Core.Bool.{Bool, true, false}
 use mathlib.Core.List.{List}
-use Prim.Native.Nat.{ℕ, zero, suc, _+_, _-_, _^_, _<_}
+use Prim.Native.Nat.{ℕ, zero, suc, _-_, _^_, _<_}
 use native.Mathlib.Omega.{arith}
-use native.Mathlib.Decide.{decLt}
-use lib.ListN.{length, set, length-set, List·getD-eq-default}
+use lib.ListN.{length, set, length-set}
 use lib.Seq.{getD-set-same, getD-set-other}
-use lib.Dec.{eqb}
 use lib.Pow.{pow-mono}
 use Rattle.min_cut.specs.Cut.{Net, cutValue, MinCut}
 use Rattle.base.specs.Word.{holds}
-use Rattle.base.specs.laws.WordLaws.{holds-out}
 use Rattle.min_cut.specs.LeastCut.{leastMinCut-minimum, leastMinCut-lt}
-use Rattle.min_cut.specs.GusfieldTree.{Cut-tree, Goes, goes-by, start}
+use Rattle.min_cut.specs.GusfieldTree.{Cut-tree, start}
 use Rattle.min_cut.specs.GusfieldStep.{step, step-up}
-use Rattle.base.specs.Basics.{pick, at}
+use Rattle.base.specs.Basics.{at}
 use Rattle.base.specs.laws.BlankLaws.{zeros-at}
 use Rattle.network.specs.Limits.{maxNodes}
 use Rattle.network.specs.Network.{networkFits, graph, leastSide}
 use Rattle.network.specs.laws.NetworkLaws.{nodes-pos, nodes-le, ends-within}
 use Rattle.network.specs.declared.Network.{Network}
-use Rattle.cut_tree.specs.Rule.{moved, placed, stepped, ruleBy, leastCut, rule, noTree}
-use Rattle.cut_tree.specs.laws.RuleLaws.{length-moved, moved-at, rule-long, parents-le}
+use Rattle.cut_tree.specs.Rule.{placed, stepped, ruleBy, leastCut, rule, noTree}
+use Rattle.cut_tree.specs.laws.RuleLaws.{rule-long, parents-le}
+use Rattle.cut_tree.specs.laws.PlacedLaws.{beside-goes, beside-own, between-goes, between-own, between-pivot}
 use Rattle.cut_tree.specs.declared.Tree.{Tree}
 
 -- the tree of the nodes below i, as the theory of cuts has it
 abbrev pub Placed : Net → ℕ → Tree → Type 0
 Placed G i tree = Cut-tree G i (at (tree .parent)) (at (tree .weight))
-
--- where every node goes, those beyond the array too: a word has no bit there
-pub moved-all : (X s t : ℕ) (ps : List ℕ) → length ps ≡ maxNodes → X < 2 ^ maxNodes → (x : ℕ)
-    → at (moved X s t 0 ps) x ≡ pick (holds X x && eqb (at ps x) t) s (at ps x)
-moved-all X s t ps e l x = go (decLt x maxNodes)
-  where
-    go : Dec (x < maxNodes) → at (moved X s t 0 ps) x ≡ pick (holds X x && eqb (at ps x) t) s (at ps x)
-    go (yes m) =
-        let z : 0 + x ≡ x = omega arith in moved-at X s t 0 ps x (omega arith) ∙ ap (λ v. pick (holds X v && eqb (at ps x) t) s (at ps x)) z
-    go (no m) =
-        List·getD-eq-default (moved X s t 0 ps) 0 (omega (arith, length-moved X s t 0 ps))
-        ∙ rw (holds-out maxNodes X x l (omega arith)) (sym (List·getD-eq-default ps 0 (omega arith)))
 
 -- ---- one step
 module _ (G : Net) (tree : Tree) (pl : length (tree .parent) ≡ maxNodes) (wl : length (tree .weight) ≡ maxNodes) (s : ℕ) (sl : s < maxNodes)
@@ -52,41 +38,30 @@ module _ (G : Net) (tree : Tree) (pl : length (tree .parent) ≡ maxNodes) (wl :
   abbrev t : ℕ
   t = at ps s
 
-  abbrev ms : List ℕ
-  ms = moved X s t 0 ps
-
   abbrev w : ℕ
   w = cutValue G (holds X)
 
   tl : t < s
   tl = T .2 .done s
 
-  long : length ms ≡ maxNodes
-  long = length-moved X s t 0 ps ∙ pl
-
-  goes : (p′ : ℕ → ℕ) (x : ℕ) → p′ x ≡ at ms x → Goes (at ps) p′ (holds X) s t x
-  goes p′ x e = goes-by (at ps) p′ (holds X) s t x (e ∙ moved-all X s t ps pl xl x)
-
   placed-tree : (b : Bool) → holds X (at ps t) ≡ b → Placed G (suc s) (placed b tree s t X w)
   placed-tree false e =
-      step G s (at ps) (at (tree .weight)) (T .0) (T .1) (T .2) t refl (holds X) m (at (set ms s t)) (at (set (tree .weight) s w)) e
-      (λ x n. goes (at (set ms s t)) x (getD-set-other ms s x t 0 n))
-      (getD-set-same ms s t 0 (omega (arith, long)))
+      step G s (at ps) (at (tree .weight)) (T .0) (T .1) (T .2) t refl (holds X) m (at (placed false tree s t X w .parent))
+      (at (set (tree .weight) s w)) e
+      (beside-goes tree pl s t X w xl)
+      (beside-own tree pl s t X w xl sl)
       (getD-set-same (tree .weight) s w 0 (omega arith))
       (λ y n. getD-set-other (tree .weight) s y w 0 n)
   placed-tree true e =
-      step-up G s (at ps) (at (tree .weight)) (T .0) (T .1) (T .2) t refl (holds X) m (at (set (set ms s q) t s))
+      step-up G s (at ps) (at (tree .weight)) (T .0) (T .1) (T .2) t refl (holds X) m (at (placed true tree s t X w .parent))
       (at (set (set (tree .weight) s v) t w)) e
-      (λ x n o. goes (at (set (set ms s q) t s)) x (getD-set-other (set ms s q) t x s 0 o ∙ getD-set-other ms s x q 0 n))
-      (getD-set-other (set ms s q) t s s 0 ne ∙ getD-set-same ms s q 0 (omega (arith, long)))
-      (getD-set-same (set ms s q) t s 0 (rw length-set (omega (arith, long, tl))))
+      (between-goes tree pl s t X w xl)
+      (between-own tree pl s t X w xl sl ne)
+      (between-pivot tree pl s t X w xl (omega (arith, tl)))
       (getD-set-other (set (tree .weight) s v) t s w 0 ne ∙ getD-set-same (tree .weight) s v 0 (omega arith))
       (getD-set-same (set (tree .weight) s v) t w 0 (rw length-set (omega (arith, tl))))
       (λ y n o. getD-set-other (set (tree .weight) s v) t y w 0 o ∙ getD-set-other (tree .weight) s y v 0 n)
     where
-      q : ℕ
-      q = at ps t
-
       v : ℕ
       v = at (tree .weight) t
 

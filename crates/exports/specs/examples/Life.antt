@@ -14,14 +14,17 @@ use Rattle.cut_tree.specs.Rule.{moved, stepped, ruleBy, leastCut, rule}
 use Rattle.cut_tree.specs.Rebuild.{keptBy, keptOrLeastBy, rebuiltBy, rebuilt}
 use Rattle.cut_tree.specs.Path.{reaches, climb, lightestOf, lightestOn, sideOf, answer}
 use Rattle.cut_tree.specs.LightestEdge.{lightestAmong}
-use Rattle.plan.specs.Calls.{changeNumber, undoNumber, altered, changeOf, undoOf, pairNumber, pairOf}
+use Rattle.cut_tree.specs.declared.PairAnswer.the-variants.{Found}
+use Rattle.plan.specs.Calls.{changeNumber, undoNumber, altered, changeOf, undoOf, pairNumber, pairOf, previewOf}
 use Rattle.plan.specs.examples.Replies.{short}
 use Rattle.plan.specs.Plan.{treeFits, stepsFit, stackFits, sound}
 use Rattle.plan.specs.examples.ResortA.{planA}
 use Rattle.plan.specs.declared.HeadroomReply.{HeadroomReply}
 use Rattle.plan.specs.declared.Plan.{Plan}
+use Rattle.plan.specs.declared.PreviewReply.{PreviewReply}
 use Rattle.exports.specs.PairReply.{pairReply}
-use Rattle.exports.specs.Made.{pamzolit-change, pamzolit-undo, pamzolit-pair, pamzolit-headroom, Held}
+use Rattle.exports.specs.Made.{pamzolit-change, pamzolit-undo, pamzolit-pair, pamzolit-preview, pamzolit-headroom}
+use Rattle.exports.specs.Made.{Held}
 use Rattle.exports.specs.declared.held.PairReply.{PairReply}
 
 -- the pair (3, 1): weight 6, the edge of node 2, the side {2, 3}; and a node with itself
@@ -40,6 +43,16 @@ pub pair-33 : pairReply (pairOf planA 3 3) ≡ refused
 unfolding holds all every blank networkFits reaches treeFits stepsFit stackFits first lightestOf lightestAmong sound
     pairNumber pairOf
 pair-33 = refl
+
+-- the pair (1, 3) with link 3 at 4: weight 8, the edge of node 1, the side {1}; 2 steps would not be kept
+abbrev eight : PairReply
+eight = record { number = 0; weight = 8; side = 2; node = 1; size = 1 }
+
+pub preview-34 : previewOf planA 3 4 1 3 ≡ record { answer = Found 8 1 2 1; count = 2 }
+unfolding sum cutValue holds first leastMinCut word all every blank networkFits moved stepped ruleBy leastCut rule
+    keptBy keptOrLeastBy rebuiltBy rebuilt reaches climb among lightestOn lightestOf sideOf answer size treeFits
+    stepsFit stackFits lightestAmong sound changeNumber altered changeOf pairNumber pairOf previewOf
+preview-34 = refl
 
 -- link 3 from 2 to 4, which keeps one of three steps, and undone, which keeps none
 abbrev p₁ : Plan
@@ -64,6 +77,7 @@ half = record { number = 0; value = negsuc 4; text = 32 ∷ 32 ∷ 32 ∷ 32 ∷
 pub life : Held planA (
     pamzolit-pair 3 1 0 six planA
     ∷ pamzolit-headroom 3 1 11 0 half planA
+    ∷ pamzolit-preview 3 4 1 3 0 eight 2 planA
     ∷ pamzolit-change 3 4 0 2 p₁
     ∷ pamzolit-undo 0 3 planA
     ∷ pamzolit-pair 3 3 15 refused planA
@@ -73,6 +87,14 @@ life = (
   (sym (ap (λ (r : PairReply). r .number) pair-31), sym pair-31, refl),
   (
     (sym (ap (λ (r : HeadroomReply). r .number) short), sym short, refl),
-    (change-34, (undo-34, ((sym (ap (λ (r : PairReply). r .number) pair-33), sym pair-33, refl), tt))),
+    (
+      (
+        sym (ap (λ (r : PreviewReply). pairReply (r .answer) .number) preview-34),
+        sym (ap (λ (r : PreviewReply). pairReply (r .answer)) preview-34),
+        sym (ap (λ (r : PreviewReply). r .count) preview-34),
+        refl,
+      ),
+      (change-34, (undo-34, ((sym (ap (λ (r : PairReply). r .number) pair-33), sym pair-33, refl), tt))),
+    ),
   ),
 )

@@ -2,7 +2,7 @@
 use mathlib.Core.Path.{_≡_, refl}
 use mathlib.Core.List.{[], _∷_, _++_}
 use lib.ListN.{replicate}
-use Rattle.history.specs.Machine.{change, undo, pair, flow, begin, refusal, next, state, numbers, ask}
+use Rattle.history.specs.Machine.{change, undo, pair, flow, preview, begin, refusal, next, state, numbers, ask}
 use Rattle.plan.specs.examples.ResortA.{networkA}
 
 -- a change pushes also when the capacity is equal, so that the undo behind it leaves the first change
@@ -24,7 +24,22 @@ pub their-numbers : numbers networkA (begin networkA)
 unfolding numbers next refusal
 their-numbers = refl
 
--- the stack holds 64
-pub sixty-five : numbers networkA (begin networkA) (replicate 65 (change 0 7)) ≡ replicate 64 0 ++ 12 ∷ []
+-- previews alter nothing; the change's refusals come first, then the pair's
+pub previews-leave : state networkA (begin networkA)
+    (ask (preview 3 4 0 1) ∷ ask (preview 5 4 0 1) ∷ ask (preview 3 4 0 4) ∷ []) ≡ begin networkA
+unfolding state next refusal
+previews-leave = refl
+
+pub preview-numbers : numbers networkA (begin networkA)
+    (ask (preview 3 4 0 1) ∷ ask (preview 5 1000001 4 4) ∷ ask (preview 3 1000001 4 4) ∷ ask (preview 3 4 4 4)
+    ∷ ask (preview 3 4 1 1) ∷ [])
+    ≡ 0 ∷ 10 ∷ 11 ∷ 14 ∷ 15 ∷ []
+unfolding numbers next refusal
+preview-numbers = refl
+
+-- the stack holds 64: full, it refuses a preview too, before its nodes are looked at
+pub sixty-five : numbers networkA (begin networkA)
+    (replicate 64 (change 0 7) ++ change 0 7 ∷ ask (preview 0 7 0 1) ∷ ask (preview 0 7 4 4) ∷ [])
+    ≡ replicate 64 0 ++ 12 ∷ 12 ∷ 12 ∷ []
 unfolding numbers next refusal
 sixty-five = refl

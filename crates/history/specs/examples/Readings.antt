@@ -23,7 +23,7 @@ use Rattle.cut_tree.specs.declared.PairAnswer.{PairAnswer}
 use Rattle.cut_tree.specs.declared.PairAnswer.the-variants.{Refused, Found}
 use Rattle.plan.specs.Plan.{treeFits, stepsFit, stackFits, sound}
 use Rattle.text.specs.Text.{digits, textWidth, rightAligned, textOf}
-use Rattle.plan.specs.Calls.{openOf, changeNumber, undoNumber, altered, changeOf, undoOf, pairNumber, pairOf}
+use Rattle.plan.specs.Calls.{openOf, changeNumber, undoNumber, altered, changeOf, undoOf, pairNumber, pairOf, previewOf}
 use Rattle.plan.specs.examples.ResortA.{resortA}
 use Rattle.plan.specs.declared.Plan.{Plan}
 use Rattle.plan.specs.declared.Changed.{Changed}
@@ -43,6 +43,8 @@ pub data Reading : Type 0 where
   lightest : (file : List ℕ) → List Alter → (node weight : ℕ) → Reading
   -- a pair call's answer
   pair : (file : List ℕ) (s t : ℕ) (weight node side size : ℕ) → Reading
+  -- a file and calls, and the reply of a preview then: the pair with link k at capacity c, and the steps not kept
+  preview : (file : List ℕ) → List Alter → (k c s t : ℕ) (weight node side size count : ℕ) → Reading
   -- a headroom's text, without the spaces before it
   reads : ℤ → List ℕ → Reading
   -- a file that is refused: number and place
@@ -87,6 +89,8 @@ stands (lightest file xs v w) =
     let r = played file xs in
     eqb (r .number) 0 && (eqb (r .plan .lightest .node) v && eqb (r .plan .lightest .weight) w)
 stands (pair file s t w v x n) = sameAnswer (pairOf (openOf file .plan) s t) w v x n
+stands (preview file xs k c s t w v x n count) =
+    let r = previewOf (played file xs .plan) k c s t in sameAnswer (r .answer) w v x n && eqb (r .count) count
 stands (reads z text) = same (textOf z) (rightAligned textWidth text)
 stands (refused file e place) = let o = openOf file in eqb (o .number) e && (eqb (o .place) place && zeros (o .plan))
 
@@ -119,6 +123,9 @@ table =
     ∷ refused (0x01 ∷ 0x00 ∷ 0x00 ∷ []) 9 2  -- P12
     -- not the paper's
     ∷ pair resortA 1 3 6 2 3 2
+    ∷ preview resortA [] 1 1 1 3 4 2 3 2 1  -- of P3
+    ∷ preview resortA [] 3 4 1 3 8 1 2 1 2 ∷ preview resortA [] 3 4 3 2 8 2 11 3 2  -- of P4
+    ∷ preview resortA (to 3 4 ∷ back ∷ []) 3 4 1 3 8 1 2 1 2  -- of P4, on P5's plan
     ∷ lightest resortA [] 2 6 ∷ lightest resortA (to 1 1 ∷ []) 2 4 ∷ lightest resortA (to 3 4 ∷ []) 1 8
     ∷ lightest resortA (to 3 4 ∷ back ∷ []) 2 6 ∷ lightest (0x01 ∷ 0x00 ∷ []) [] 0 0
     ∷ lightest (0x02 ∷ 0x00 ∷ []) [] 1 0
@@ -129,6 +136,6 @@ pub readings : allStand table ≡ true
 unfolding sum cutValue holds first leastMinCut word all every blank networkFits readGroups readNumber taken linkAt
     readLink readLinks readAll readFile moved stepped ruleBy leastCut rule keptBy keptOrLeastBy rebuiltBy rebuilt
     reaches climb among lightestOn lightestOf sideOf answer treeFits stepsFit stackFits lightestAmong sound digits
-    textOf openOf changeNumber undoNumber altered changeOf undoOf pairNumber pairOf same last played stands allStand
-    table size
+    textOf openOf changeNumber undoNumber altered changeOf undoOf pairNumber pairOf previewOf same last played stands
+    allStand table size
 readings = refl

@@ -11,11 +11,13 @@ use Rattle.min_cut.specs.FirstWord.{first}
 use Rattle.cut_tree.specs.Path.{reaches, lightestOf}
 use Rattle.cut_tree.specs.LightestEdge.{lightestAmong}
 use Rattle.plan.specs.Plan.{treeFits, stepsFit, stackFits, sound}
-use Rattle.plan.specs.Calls.{changeOf, undoOf, pairOf, flowNumber, Flowed}
-use Rattle.history.specs.Machine.{change, undo, pair, flow, refusal, next, numbers, ask}
-use Rattle.history.specs.Run.{FlowReply, Event, Run, numbersOf}
+use Rattle.plan.specs.Calls.{changeOf, undoOf, pairOf, previewOf, flowNumber, Flowed}
+use Rattle.history.specs.Machine.{change, undo, pair, flow, preview, refusal, next, numbers, ask}
+use Rattle.history.specs.Run.{FlowReply, Event, Run, callsOf, numbersOf}
 use Rattle.history.specs.History.{Demand3}
+use Rattle.history.specs.Previews.{withoutPreviews}
 use Rattle.history.specs.Whole.{demand-3}
+use Rattle.history.specs.AsIfAbsent.{as-if-absent}
 use Rattle.plan.specs.examples.ResortA.{resortA, planA, opening-A}
 use Rattle.history.specs.examples.FlowA.{eight, eight-lawful, eight-total}
 use Rattle.plan.specs.declared.Plan.{Plan}
@@ -49,7 +51,7 @@ too-short = record {
   untouched = λ n. refl;
 }
 
--- P4 and P5, with calls between them that are refused
+-- P4 and P5, with calls between them that are refused, and previews
 abbrev p₁ : Plan
 p₁ = changeOf planA 3 4 .plan
 
@@ -64,16 +66,18 @@ events =
     record { call = ask (flow 0 1 5); reply = filled }
     ∷ record { call = ask (flow 0 1 1); reply = short }
     ∷ record { call = change 3 4; reply = changeOf planA 3 4 }
+    ∷ record { call = ask (preview 1 1 3 1); reply = previewOf p₁ 1 1 3 1 }
     ∷ record { call = change 9 4; reply = changeOf p₁ 9 4 }
     ∷ record { call = undo; reply = undoOf p₂ }
     ∷ record { call = undo; reply = undoOf p₃ }
+    ∷ record { call = ask (preview 9 4 3 3); reply = previewOf (undoOf p₃ .plan) 9 4 3 3 }
     ∷ record { call = ask (pair 3 3); reply = pairOf (undoOf p₃ .plan) 3 3 }
     ∷ record { call = ask (pair 3 1); reply = pairOf (undoOf p₃ .plan) 3 1 }
     ∷ []
 
 run : Run planA events
 unfolding events
-run = ((refl, flowed), ((refl, too-short), (refl, (refl, (refl, (refl, (refl, (refl, tt))))))))
+run = ((refl, flowed), ((refl, too-short), (refl, (refl, (refl, (refl, (refl, (refl, (refl, (refl, tt))))))))))
 
 -- of resort A's plan
 claimed : (es : List Event) → Run planA es → Demand3 planA es
@@ -85,9 +89,19 @@ pub sample : Demand3 planA events
 sample = claimed events run
 
 -- its numbers, by the machine
-pub sample-numbers : numbersOf events ≡ 0 ∷ 16 ∷ 0 ∷ 10 ∷ 0 ∷ 13 ∷ 15 ∷ 0 ∷ []
+pub sample-numbers : numbersOf events ≡ 0 ∷ 16 ∷ 0 ∷ 0 ∷ 10 ∷ 0 ∷ 13 ∷ 10 ∷ 15 ∷ 0 ∷ []
 unfolding events numbers next refusal
 sample-numbers = sample .numbered
+
+-- without its two previews: the other calls, with the numbers that they had
+pub sample-others : callsOf (withoutPreviews events)
+    ≡ ask (flow 0 1 5) ∷ ask (flow 0 1 1) ∷ change 3 4 ∷ change 9 4 ∷ undo ∷ undo ∷ ask (pair 3 3) ∷ ask (pair 3 1) ∷ []
+unfolding events withoutPreviews
+sample-others = refl
+
+pub others-numbers : numbersOf (withoutPreviews events) ≡ 0 ∷ 16 ∷ 0 ∷ 10 ∷ 0 ∷ 13 ∷ 15 ∷ 0 ∷ []
+unfolding events withoutPreviews numbers next refusal
+others-numbers = claimed (withoutPreviews events) (as-if-absent planA events run .run) .numbered
 
 -- the empty list: the opening's own plan
 pub sample-empty : Demand3 planA []

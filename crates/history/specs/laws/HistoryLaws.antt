@@ -10,29 +10,32 @@ use lib.Seq.{take-at}
 use lib.Dec.{eqb, eqb·suc-zero}
 use lib.IntN.{pos}
 use Rattle.base.specs.Basics.{at}
-use Rattle.base.specs.laws.TestLaws.{shown, head, rest}
+use Rattle.base.specs.laws.TestLaws.{shown as tests, head, rest}
 use Rattle.base.specs.Checks.{row, accepted}
 use Rattle.network.specs.Limits.{maxLinks, maxCapacity}
-use Rattle.network.specs.Network.{networkFits}
-use Rattle.network.specs.laws.NetworkLaws.{capacity-le}
+use Rattle.network.specs.Network.{networkFits, WithinLimits, withCapacity}
+use Rattle.network.specs.laws.NetworkLaws.{capacity-le, change-within}
 use Rattle.network.specs.declared.Network.{Network}
 use Rattle.cut_tree.specs.Rule.{rule}
-use Rattle.cut_tree.specs.Path.{answer, numberOf, weightOf}
+use Rattle.cut_tree.specs.Rebuilds.{rebuilt-tree}
+use Rattle.cut_tree.specs.Path.{pairRows, answer, numberOf, weightOf}
 use Rattle.cut_tree.specs.AnswerMinimum.{answer-minimum, answer-lightest, answer-weight}
 use Rattle.cut_tree.specs.declared.PairAnswer.{PairAnswer}
 use Rattle.cut_tree.specs.declared.PairAnswer.the-variants.{Refused}
 use Rattle.plan.specs.Plan.{maxDepth, push}
 use Rattle.plan.specs.Calls.{changeNumber, undoNumber, altered, unaltered, changed, undone, changeOf, undoOf, pairNumber, pairOf}
-use Rattle.plan.specs.Calls.{flowNumber}
-use Rattle.history.specs.Machine.{Query, pair, flow, Call, change, undo, ask, Entry, State, refusal, numberAt, next, padded}
-use Rattle.history.specs.Machine.{networkAt, stackOf}
+use Rattle.plan.specs.Calls.{noPreview, previewNumber, previewOf, flowNumber}
+use Rattle.plan.specs.laws.PreviewLaws.{shown, preview-is}
+use Rattle.history.specs.Machine.{Query, pair, flow, preview, Call, change, undo, ask, Entry, State, refusal, numberAt, next}
+use Rattle.history.specs.Machine.{padded, networkAt, stackOf}
 use Rattle.history.specs.Run.{FlowReply, Answer, Reply, answerNumber, numberIn, Answered, Promised, planAfter}
-use Rattle.history.specs.History.{Agrees, RightPair, RightFlow, RightAnswer, NoAnswer, Unaltered, AtCall}
+use Rattle.history.specs.History.{Agrees, RightPair, RightFlow, RightPreview, RightAnswer, NoAnswer, Unaltered, AtCall}
 use Rattle.history.specs.laws.StackLaws.{stack-depth, top-link, top-capacity, pop-stack}
 use Rattle.history.specs.laws.MachineLaws.{pair-ok, change-ok, refused-next, accepted-next, ask-next}
 use Rattle.history.specs.laws.PlanAt.{planAt, Good, sound-at, set-within, altered-plan, altered-count}
 use Rattle.plan.specs.declared.Stack.{Stack}
 use Rattle.plan.specs.declared.Changed.{Changed}
+use Rattle.plan.specs.declared.PreviewReply.{PreviewReply}
 
 module _ (net : Network) where
   -- the network of a state, and the answer from the rule's tree on it
@@ -51,7 +54,7 @@ module _ (net : Network) where
         a = refl;
         b = refl;
         capacity = take-at (x .capacity) (replicate (maxLinks - length (x .capacity)) 0) (net .links) (g .long);
-        unused = head (rest (rest (rest (rest (rest (rest (shown _ (g .within .fits))))))));
+        unused = head (rest (rest (rest (rest (rest (rest (tests _ (g .within .fits))))))));
         stack = refl;
         tree = refl;
         steps = refl;
@@ -73,6 +76,10 @@ module _ (net : Network) where
     undo-number : undoNumber (planAt net x) ≡ numberAt net x undo
     unfolding undoNumber refusal
     undo-number = rw (sound-at net x g, stack-depth (x .stack))
+
+    preview-number : (k c s t : ℕ) → previewNumber (planAt net x) k c s t ≡ numberAt net x (ask (preview k c s t))
+    unfolding previewNumber refusal
+    preview-number k c s t = rw (sound-at net x g, stack-depth (x .stack))
 
     pub pair-number : (s t : ℕ) → pairNumber (planAt net x) s t ≡ numberAt net x (ask (pair s t))
     unfolding pairNumber refusal
@@ -118,7 +125,7 @@ module _ (net : Network) where
     }
       where
         ok : (k < net .links) × (c ≤ maxCapacity) × (length (x .stack) ≢ maxDepth)
-        ok = change-ok (net .nodes) (net .links) x k c q
+        ok = unfold refusal in (let h = change-ok (net .links) x k c [] q in (h .0, h .1, h .2))
 
         kl : k < net .links
         kl = ok .0
@@ -195,15 +202,10 @@ module _ (net : Network) where
       }
 
   -- ---- pair
-  pub pair-right : (x : State) → Good net x → (s t : ℕ) → s < net .nodes → t < net .nodes → s ≢ t
-      → RightPair (G x) s t (answerAt x s t)
-  pair-right x g s t sl tl d =
-      let w = g .within in
-      record {
-        by-rule = refl;
-        lightest = answer-lightest (G x) w s t sl tl d;
-        minimum = answer-minimum (G x) w s t sl tl d;
-      }
+  pub pair-right : (H : Network) → WithinLimits H → (s t : ℕ) → s < H .nodes → t < H .nodes → s ≢ t
+      → RightPair H s t (answer (rule H .tree) (H .nodes) s t)
+  pair-right H w s t sl tl d =
+      record { by-rule = refl; lightest = answer-lightest H w s t sl tl d; minimum = answer-minimum H w s t sl tl d }
 
   -- a query's reply, by the number that the machine gives it
   pub record Replied (x : State) (q : Query) (r : Answer q) : Type 0 where
@@ -224,7 +226,7 @@ module _ (net : Network) where
         let number : numberOf r ≡ 0 = ap numberOf by ∙ (unfold answer in refl) in
         record {
           number = number ∙ sym q;
-          if-accepted = λ z. rw by (pair-right x g s t (ok .0) (ok .1) (ok .2));
+          if-accepted = λ z. rw by (pair-right (G x) (g .within) s t (ok .0) (ok .1) (ok .2));
           if-refused = λ z. absurd (z number);
         }
     pair-replied (suc e) q =
@@ -250,10 +252,46 @@ module _ (net : Network) where
     pub flow-replied : Replied x (flow s t size) r
     flow-replied = record { number = flow-number-is; if-accepted = flow-right; if-refused = h .1 .untouched }
 
+  -- ---- preview
+  module _ (x : State) (g : Good net x) (k c s t : ℕ) (r : PreviewReply) (h : r ≡ previewOf (planAt net x) k c s t) where
+    preview-by : (e : ℕ) → numberAt net x (ask (preview k c s t)) ≡ e → r ≡ accepted e (shown (planAt net x) k c s t) noPreview
+    preview-by e q =
+        h ∙ preview-is (planAt net x) k c s t
+        ∙ ap (λ (v : ℕ). accepted v (shown (planAt net x) k c s t) noPreview) (preview-number x g k c s t ∙ q)
+
+    -- the rebuilt tree is the rule's, at the new capacity
+    preview-right : k < net .links → c ≤ maxCapacity → s < net .nodes → t < net .nodes → s ≢ t
+        → RightPreview (G x) k c s t (shown (planAt net x) k c s t)
+    unfolding altered answer
+    preview-right kl cl sl tl d = record {
+      count = altered-count net x g k c kl cl (stackOf (x .stack));
+      pair =
+          rw (rebuilt-tree (G x) (g .within) k c kl)
+          (pair-right (withCapacity (G x) k c) (change-within (G x) k c kl cl (g .within)) s t sl tl d);
+    }
+
+    preview-replied : (e : ℕ) → numberAt net x (ask (preview k c s t)) ≡ e → Replied x (preview k c s t) r
+    unfolding refusal
+    preview-replied zero q =
+        let (kl, cl, _, z) = change-ok (net .links) x k c (pairRows (net .nodes) s t []) q in
+        let (sl, tl, d) = pair-ok (net .nodes) s t [] z in
+        let by : r ≡ shown (planAt net x) k c s t = preview-by 0 q in
+        let number : numberOf (r .answer) ≡ 0 = ap (λ (v : PreviewReply). numberOf (v .answer)) by ∙ (unfold answer in refl) in
+        record {
+          number = number ∙ sym q;
+          if-accepted = λ z. rw by (preview-right kl cl sl tl d);
+          if-refused = λ z. absurd (z number);
+        }
+    preview-replied (suc e) q =
+        let by : r ≡ noPreview (suc e) = preview-by (suc e) q in
+        let number : numberOf (r .answer) ≡ suc e = ap (λ (v : PreviewReply). numberOf (v .answer)) by in
+        record { number = number ∙ sym q; if-accepted = λ z. absurd (omega arith); if-refused = λ z. by ∙ ap noPreview (sym number) }
+
   -- ---- every query
   pub replied : (x : State) → Good net x → (q : Query) (r : Answer q) → Answered (planAt net x) q r → Replied x q r
   replied x g (pair s t) r h = pair-replied x g s t r h _ refl
   replied x g (flow s t size) r h = flow-replied x g s t size r h
+  replied x g (preview k c s t) r h = preview-replied x g k c s t r h _ refl
 
   ask-step : (x : State) → Good net x → (q : Query) (r : Answer q) → Answered (planAt net x) q r → Stepped x (ask q) r
   ask-step x g q r h =

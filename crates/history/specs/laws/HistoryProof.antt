@@ -67,7 +67,7 @@ module _ (net : Network) where
     pair-is s t = pair-found (planAt net x) s t (sound-at net x g)
 
     pairs-at : (s t : ℕ) → s < net .nodes → t < net .nodes → s ≢ t → RightPair (networkAt net (x .capacity)) s t (pairOf (planAt net x) s t)
-    pairs-at s t sl tl d = rw (pair-is s t sl tl d) (pair-right net x g s t sl tl d)
+    pairs-at s t sl tl d = rw (pair-is s t sl tl d) (pair-right net (networkAt net (x .capacity)) (g .within) s t sl tl d)
 
     flows-at : (s t : ℕ) → s < net .nodes → t < net .nodes → s ≢ t → (r : FlowReply) → Answered (planAt net x) (flow s t (net .links)) r
         → (r .number ≡ 0) × RightFlow (networkAt net (x .capacity)) s t (weightOf (pairOf (planAt net x) s t)) (r .behind)

@@ -15,6 +15,7 @@ use Rattle.cut_tree.specs.Rebuild.{rebuilt, notKept}
 use Rattle.cut_tree.specs.Rebuilds.{rebuilt-tree, rebuilt-steps, rebuilt-count, rebuilt-most}
 use Rattle.cut_tree.specs.LightestEdge.{lightestEdge}
 use Rattle.cut_tree.specs.laws.EdgeLaws.{equal-edges}
+use Rattle.cut_tree.specs.laws.RuleShape.{rule-shape}
 use Rattle.plan.specs.laws.ShapeLaws.{tree-fits, steps-fit}
 use Rattle.plan.specs.Plan.{maxDepth, sound, planOf}
 use Rattle.plan.specs.Calls.{altered}
@@ -43,7 +44,8 @@ module _ (net : Network) (x : State) (g : Good net x) where
       let w = g .within in
       let G = networkAt net (x .capacity) in
       let e = lightestEdge (net .nodes) (rule G .tree) in
-      test (w .fits & tree-fits G (w .fits) & equal-edges e e refl & steps-fit G (w .fits)
+      let shape = rule-shape G (w .fits) in
+      test (w .fits & tree-fits (net .nodes) (rule G) shape & equal-edges e e refl & steps-fit (net .nodes) (rule G) shape
       & stack-fits (net .links) (x .stack) (g .entries) (g .deep) & none)
 
   -- ---- link k is set to c

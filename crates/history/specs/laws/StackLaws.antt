@@ -4,17 +4,16 @@ use mathlib.Core.Bool.{true}
 use mathlib.Core.List.{List, [], _∷_}
 use Prim.Native.Nat.{ℕ, _-_, _≤_, _<_}
 use native.Mathlib.Omega.{arith}
-use native.Mathlib.Decide.{ℕ-discrete}
 use lib.ListN.{length, set, length-set, length-replicate}
-use lib.Seq.{set-set, set-getD, getD-set-same, getD-set-other}
-use borrow.Author.Tests.{lt-ltb, le-leb}
+use lib.Seq.{set-set, set-getD, getD-set-same}
+use borrow.Author.Tests.{le-leb}
 use Rattle.base.specs.Basics.{at, blankFrom}
 use Rattle.base.specs.laws.TestLaws.{all-in, none, _&_, test}
 use Rattle.base.specs.laws.BlankLaws.{blank-at, blank-zeros, blank-behind}
 use Rattle.network.specs.Limits.{maxCapacity}
-use Rattle.plan.specs.Plan.{maxDepth, entryFits, stackFits, push, pop}
+use Rattle.plan.specs.Plan.{maxDepth, entryFits, stackFits, noStack, pop}
+use Rattle.plan.specs.laws.PushLaws.{push-fits}
 use Rattle.history.specs.Machine.{Entry, stackOf}
-use Rattle.plan.specs.declared.Stack.{Stack}
 
 pub stack-depth : (es : List Entry) → stackOf es .depth ≡ length es
 unfolding stackOf
@@ -45,33 +44,13 @@ abbrev pub Entries : ℕ → List Entry → Type 0
 Entries m [] = Unit {0}
 Entries m (e ∷ es) = (e .link < m) × (e .capacity ≤ maxCapacity) × Entries m es
 
-stack-entries : (m : ℕ) (es : List Entry) → Entries m es → length es ≤ maxDepth → (i : ℕ) → i < stackOf es .depth
-    → entryFits m (stackOf es) i ≡ true
-unfolding stackOf
-stack-entries m [] f l i il = absurd (omega arith)
-stack-entries m (e ∷ es) f l i il = go (ℕ-discrete i (stackOf es .depth)) (stack-entries m es (f .2) (omega arith) i)
-  where
-    p : Stack
-    p = stackOf es
-
-    link-at : at (set (p .link) (p .depth) (e .link)) (p .depth) ≡ e .link
-    link-at = getD-set-same (p .link) (p .depth) (e .link) 0 (omega (arith, stack-depth es, stack-link es))
-
-    capacity-at : at (set (p .capacity) (p .depth) (e .capacity)) (p .depth) ≡ e .capacity
-    capacity-at = getD-set-same (p .capacity) (p .depth) (e .capacity) 0 (omega (arith, stack-depth es, stack-capacity es))
-
-    go : Dec (i ≡ p .depth) → (i < p .depth → entryFits m p i ≡ true) → entryFits m (push p (e .link) (e .capacity)) i ≡ true
-    go (yes q) ih = rw (q, link-at, capacity-at) (test (lt-ltb _ _ (f .0) & le-leb _ _ (f .1) & none))
-    go (no q) ih =
-        rw (getD-set-other (p .link) (p .depth) i (e .link) 0 q, getD-set-other (p .capacity) (p .depth) i (e .capacity) 0 q)
-        (ih (omega arith))
-
 pub stack-fits : (m : ℕ) (es : List Entry) → Entries m es → length es ≤ maxDepth → stackFits m (stackOf es) ≡ true
-unfolding stackFits
-stack-fits m es f l =
-    let p = stackOf es in
-    test (le-leb (p .depth) maxDepth (omega (arith, stack-depth es)) & all-in (p .depth) (entryFits m p) (stack-entries m es f l)
-    & stack-blank es .0 & stack-blank es .1 & none)
+unfolding stackOf stackFits
+stack-fits m [] f l =
+    test (le-leb 0 maxDepth (omega arith) & all-in 0 (entryFits m noStack) (λ i l. absurd (omega arith))
+    & blank-zeros maxDepth & blank-zeros maxDepth & none)
+stack-fits m (e ∷ es) f l =
+    push-fits m (stackOf es) (stack-fits m es (f .2) (omega arith)) (e .link) (e .capacity) (f .0) (f .1) (omega (arith, stack-depth es))
 
 -- ---- its top, and what a pop leaves
 module _ (e : Entry) (es : List Entry) (l : length es < maxDepth) where

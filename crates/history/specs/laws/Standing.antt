@@ -9,7 +9,7 @@ use Rattle.base.specs.Basics.{at}
 use Rattle.base.specs.Checks.{accepted}
 use Rattle.network.specs.Limits.{maxLinks}
 use Rattle.network.specs.declared.Network.{Network}
-use Rattle.history.specs.Machine.{Call, change, undo, ask, Entry, State, numberAt, popped, moves, next, state, padded}
+use Rattle.history.specs.Machine.{Call, change, undo, ask, Entry, State, refusal, numberAt, popped, moves, next, state, padded}
 use Rattle.history.specs.Run.{Event, numberIn, callsOf, Run}
 use Rattle.history.specs.History.{stands, standing, applied}
 use Rattle.history.specs.laws.StackLaws.{Entries}
@@ -61,7 +61,8 @@ module _ (net : Network) (opened : List ℕ) (x : State) (g : Good net x) (ds : 
       )
 
   backed-moves : (c : Call) → numberAt net x c ≡ 0 → Backed opened (padded (moves x c .capacity)) (moves x c .stack) (stands ds c)
-  backed-moves (change k c) q = backed-change k c (change-ok (net .nodes) (net .links) x k c q .0)
+  unfolding refusal
+  backed-moves (change k c) q = backed-change k c (change-ok (net .links) x k c [] q .0)
   backed-moves undo q = backed-undo (net .links) opened (x .capacity) (x .stack) ds (g .long) (g .entries) b
   backed-moves (ask q) e = b
 

@@ -4,15 +4,17 @@ use mathlib.Core.Logic.{_≢_}
 use mathlib.Core.Bool.{Bool, true, false, true≢false, Bool·beq}
 use Prim.Native.Nat.{ℕ, _+_, _≤_, _<_}
 use native.Mathlib.Omega.{arith}
-use native.Mathlib.Decide.{ℕ-discrete}
+use native.Mathlib.Decide.{decLt}
 use native.Mathlib.Numerals.{add-one}
 use lib.ListN.{length-set}
-use lib.Seq.{getD-set-same, getD-set-other, drop-set-lt}
+use lib.Seq.{drop-set-lt}
 use borrow.Author.Tests.{ltb-true, leb-true, le-leb, eqb-false, not-true}
 use Rattle.base.specs.laws.Bools.{bool2}
 use Rattle.base.specs.Sum.{sum}
 use Rattle.min_cut.specs.Cut.{Side, crossing, cutValue, Within}
 use Rattle.base.specs.Basics.{at}
+use Rattle.base.specs.laws.BlankLaws.{blank-above}
+use Rattle.base.specs.laws.ListLaws.{set-le}
 use Rattle.base.specs.laws.TestLaws.{all-at, all-in, none, _&_, shown, test, head, rest, keep}
 use Rattle.network.specs.Limits.{maxNodes, maxLinks, maxCapacity, maxValue}
 use Rattle.network.specs.Network.{linkFits, networkFits, WithinLimits, withCapacity, graph, valueOf}
@@ -108,29 +110,34 @@ pub value-le : (net : Network) → networkFits net ≡ true → (X : Side) → v
 value-le net e X = rw (value-all net X) at (value-before-le net X e (net .links) (omega arith))
 
 -- one capacity is changed
-module _ (net : Network) (k c : ℕ) (kl : k < net .links) (cl : c ≤ maxCapacity) (w : WithinLimits net) where
-  same-link : (i : ℕ) → linkFits net i ≡ true → linkFits (withCapacity net k c) i ≡ true
-  same-link i = go (ℕ-discrete i k)
-    where
-      go : Dec (i ≡ k) → linkFits net i ≡ true → linkFits (withCapacity net k c) i ≡ true
-      go (yes q) f =
-          test (keep (keep (keep (λ u. rw (
-            q,
-            getD-set-same (net .capacity) k c 0 (omega (arith, w .sized .capacity, links-le net (w .fits))),
-          ) (le-leb c maxCapacity cl) & none))) (shown _ f))
-      go (no q) f = test (keep (keep (keep (λ u. rw (getD-set-other (net .capacity) k i c 0 q) (head u) & none))) (shown _ f))
+module _ (net : Network) (k c : ℕ) (kl : k < net .links) (cl : c ≤ maxCapacity) where
+  module _ (e : networkFits net ≡ true) where
+    -- a capacity at any place, used or not
+    any-capacity : (i : ℕ) → at (net .capacity) i ≤ maxCapacity
+    unfolding networkFits
+    any-capacity i = go (decLt i (net .links))
+      where
+        go : Dec (i < net .links) → at (net .capacity) i ≤ maxCapacity
+        go (yes l) = capacity-le net e i l
+        go (no l) =
+            let unused = head (rest (rest (rest (rest (rest (rest (shown _ e))))))) in
+            omega (arith, blank-above (net .links) (net .capacity) unused i (omega arith))
 
-  pub change-fits : networkFits (withCapacity net k c) ≡ true
-  unfolding networkFits
-  change-fits =
-      test (keep
-      (keep (keep
-      (λ h. all-in (net .links) (linkFits (withCapacity net k c))
-      (λ i l. same-link i (all-at (net .links) (linkFits net) (head h) i l))
-      & keep (keep (λ u. rw (drop-set-lt (net .links) (net .capacity) k c kl) (head u) & none)) (rest h)))) (shown _ (w .fits)))
+    same-link : (i : ℕ) → linkFits net i ≡ true → linkFits (withCapacity net k c) i ≡ true
+    same-link i f =
+        test (keep (keep (keep (λ u. le-leb _ _ (set-le maxCapacity (net .capacity) k c cl any-capacity i) & none))) (shown _ f))
 
-  pub change-within : WithinLimits (withCapacity net k c)
-  change-within = record {
-    fits = change-fits;
+    pub change-fits : networkFits (withCapacity net k c) ≡ true
+    unfolding networkFits
+    change-fits =
+        test (keep
+        (keep (keep
+        (λ h. all-in (net .links) (linkFits (withCapacity net k c))
+        (λ i l. same-link i (all-at (net .links) (linkFits net) (head h) i l))
+        & keep (keep (λ u. rw (drop-set-lt (net .links) (net .capacity) k c kl) (head u) & none)) (rest h)))) (shown _ e))
+
+  pub change-within : WithinLimits net → WithinLimits (withCapacity net k c)
+  change-within w = record {
+    fits = change-fits (w .fits);
     sized = record { a = w .sized .a; b = w .sized .b; capacity = length-set (net .capacity) k c ∙ w .sized .capacity };
   }

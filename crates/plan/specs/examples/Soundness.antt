@@ -19,8 +19,8 @@ use Rattle.cut_tree.specs.Rule.{noTree}
 use Rattle.cut_tree.specs.declared.Tree.{Tree}
 use Rattle.cut_tree.specs.declared.Steps.{Steps}
 use Rattle.plan.specs.Plan.{treeFits, stepsFit, stackFits, sound, noStack, push, noPlan, planOf, planWith}
-use Rattle.plan.specs.Calls.{changeNumber, changeOf, undoNumber, undoOf, pairNumber, pairOf, flowNumber}
-use Rattle.plan.specs.Calls.{headroomNumber, headroomOf, writeNumber, writeOf}
+use Rattle.plan.specs.Calls.{changeNumber, changeOf, undoNumber, undoOf, pairNumber, pairOf, previewOf}
+use Rattle.plan.specs.Calls.{flowNumber, headroomNumber, headroomOf, writeNumber, writeOf}
 use Rattle.plan.specs.examples.ResortA.{array, networkA, treeA, stepsA, planA}
 use Rattle.plan.specs.declared.Stack.{Stack}
 use Rattle.plan.specs.declared.Plan.{Plan}
@@ -186,6 +186,7 @@ allRefuse (p ∷ ps) =
     eqb (changeOf p 0 1 .number) 19
     ∷ eqb (undoOf p .number) 19
     ∷ eqb (numberOf (pairOf p 0 1)) 19
+    ∷ eqb (numberOf (previewOf p 0 1 0 1 .answer)) 19
     ∷ eqb (flowNumber p 0 1 (p .network .links)) 19
     ∷ eqb (headroomOf p 0 1 0 .number) 19
     ∷ eqb (writeOf p maxFile .number) 19
@@ -199,6 +200,6 @@ examples = (refl, refl)
 
 pub other-edges : (noneSound otherEdges ≡ true) × (otherwiseSound otherEdges ≡ true) × (allRefuse otherEdges ≡ true)
 unfolding holds all every blank networkFits reaches treeFits first lightestOf lightestAmong stepsFit stackFits sound
-    doubling noneSound otherwiseSound allRefuse changeNumber changeOf undoNumber undoOf pairNumber pairOf flowNumber
-    headroomNumber headroomOf writeNumber writeOf
+    doubling noneSound otherwiseSound allRefuse changeNumber changeOf undoNumber undoOf pairNumber pairOf previewOf
+    flowNumber headroomNumber headroomOf writeNumber writeOf
 other-edges = (refl, refl, refl)

@@ -27,12 +27,16 @@ module _ (p : Plan) (k c r : ℕ) (e : r ≡ changeNumber p k c) where
     unfolding changeOf
     change-accepted = rw (sym e ∙ z)
 
+    pub change-sound : sound p ≡ true
+    unfolding changeNumber
+    change-sound = not-false (sound p) (passed-row (not (sound p)) 18 _ (sym e ∙ z))
+
     pub change-assumes : Changes (p .network) k c × (p .stack .depth < maxDepth)
     unfolding changeNumber
     change-assumes =
         let m = p .network .links in
         let q = sym e ∙ z in
-        let s = not-false (sound p) (passed-row (not (sound p)) 18 _ q) in
+        let s = change-sound in
         let q1 = later-rows (not (sound p)) 18 _ q in
         let q2 = later-rows (not (ltb k m)) 9 _ q1 in
         let q3 = later-rows (ltb maxCapacity c) 10 _ q2 in (

@@ -15,7 +15,7 @@ use Rattle.cut_tree.specs.Path.{maxClimb, reaches, Climbs}
 use Rattle.cut_tree.specs.LightestEdge.{lightestEdge}
 use Rattle.cut_tree.specs.laws.EdgeLaws.{edges-equal}
 use Rattle.cut_tree.specs.declared.Tree.{Tree}
-use Rattle.plan.specs.Plan.{maxDepth, treeFits, entryFits, stackFits, sound}
+use Rattle.plan.specs.Plan.{maxDepth, treeFits, stepsFit, entryFits, stackFits, sound}
 use Rattle.plan.specs.declared.Plan.{Plan}
 use Rattle.base.specs.laws.BlankLaws.{blank-above}
 
@@ -61,16 +61,20 @@ module _ (p : Plan) (e : sound p ≡ true) where
   pub sound-weight : (i : ℕ) → at (p .tree .weight) i ≤ maxValue
   sound-weight = tree-weight (p .network .nodes) (p .tree) tree-fits
 
-  stack-fits : stackFits (p .network .links) (p .stack) ≡ true
+  pub sound-steps : stepsFit (p .network .nodes) (p .steps) ≡ true
   unfolding sound
-  stack-fits = head (rest (rest (rest (rest (shown _ e)))))
+  sound-steps = head (rest (rest (rest (shown _ e))))
+
+  pub sound-stack : stackFits (p .network .links) (p .stack) ≡ true
+  unfolding sound
+  sound-stack = head (rest (rest (rest (rest (shown _ e)))))
 
   pub sound-depth : p .stack .depth ≤ maxDepth
   unfolding stackFits
-  sound-depth = leb-true _ _ (head (shown _ stack-fits))
+  sound-depth = leb-true _ _ (head (shown _ sound-stack))
 
   pub sound-entry : (i : ℕ) → i < p .stack .depth → (at (p .stack .link) i < p .network .links) × (at (p .stack .capacity) i ≤ maxCapacity)
   unfolding stackFits
   sound-entry i l =
-      let h = shown _ (all-at (p .stack .depth) (entryFits (p .network .links) (p .stack)) (head (rest (shown _ stack-fits))) i l) in
+      let h = shown _ (all-at (p .stack .depth) (entryFits (p .network .links) (p .stack)) (head (rest (shown _ sound-stack))) i l) in
       (ltb-true _ _ (head h), leb-true _ _ (head (rest h)))

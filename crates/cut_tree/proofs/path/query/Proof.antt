@@ -1,40 +1,42 @@
--- Each return is a row of the checks, or the answer.
+-- `cut_tree::path::query` meets its contract: the refusal of its rows, or the answer.
+use mathlib.Core.Logic.{_≢_}
 use Prim.Native.Nat.{_<_}
 use native.Mathlib.Omega.{arith}
 use Rattle.network.specs.Limits.{maxNodes}
-use Rattle.cut_tree.specs.laws.QueryLaws.{refused-s, refused-t, refused-same, answered, pair-climbs}
+use Rattle.cut_tree.specs.laws.QueryLaws.{query-nodes, query-refused, answered, pair-climbs}
 use Rattle.cut_tree.specs.laws.PathLaws.{lightest-node}
 use borrow.Author.Needs.{needs}
 use Rattle.cut_tree.proofs.path.query.Statement.{statement}
 use Rattle.cut_tree.proofs.path.query.Tie as tie
 
+query-number-requires : tie.Need-query-number-requires
+query-number-requires c κs = search needs
+
 returns : tie.Need-returns
-returns c = refused-s _ _ _ _ (c .if1 .taken)
+returns c = query-refused _ _ _ _ _ (c .before .query-number .ensures) (c .if1 .taken)
 
-returns-2 : tie.Need-returns-2
-returns-2 c = refused-t _ _ _ _ (c .before .if1 .left) (c .if2 .taken)
-
-returns-3 : tie.Need-returns-3
-returns-3 c = refused-same _ _ _ _ (c .before .before .if1 .left) (c .before .if2 .left) (c .if3 .taken)
+-- once no row held
+nodes : (c : tie.Else1) → let a = c .before .before .args in (a .s < a .n) × (a .t < a .n) × (a .s ≢ a .t)
+nodes c = query-nodes _ _ _ _ (c .before .query-number .ensures) (c .if1 .left)
 
 lightest-on-requires : tie.Need-lightest-on-requires
 lightest-on-requires c κs =
-    let e = c .before .before .before .before .before in
+    let e = c .before .before .before .before in
     let st = e .before .before in
-    pair-climbs (st .args .tree) _ _ _ (st .pre) (e .before .if1 .left) (e .if2 .left)
+    pair-climbs (st .args .tree) _ _ _ (st .pre) (nodes e .0) (nodes e .1)
 
 side-of-requires : tie.Need-side-of-requires
-side-of-requires c κs = search needs
+side-of-requires c κs = let e = c .before .before .before .before .before .before in (e .before .before .pre, nodes e .0)
 
 -- what is found is a node
 found : (c : tie.After-side-of) → c .before .before .lightest-on .result < maxNodes
 found c =
     let o = c .before .before in
     let e = o .before .before .before .before .before in
-    let st = e .before .before .before in
+    let st = e .before .before in
     let a = st .args in
-    let below =
-    lightest-node (a .n) (a .tree) (st .pre) (a .s) (a .t) (e .before .before .if1 .left) (e .before .if2 .left) (e .if3 .left) in
+    let (sl, tl, d) = nodes e in
+    let below = lightest-node (a .n) (a .tree) (st .pre) (a .s) (a .t) sl tl d in
     let few = st .pre .small in
     omega (arith, o .lightest-on .ensures, below .1, few)
 
@@ -47,25 +49,24 @@ array-read-w c = omega (arith, found c)
 size-requires : tie.Need-size-requires
 size-requires c κs = search needs
 
-returns-4 : tie.Need-returns-4
-returns-4 c =
+returns-2 : tie.Need-returns-2
+returns-2 c =
     let x = c .before in
     let o = x .before .before in
     let e = o .before .before .before .before .before in
-    let st = e .before .before .before in
-    answered (st .args .tree) _ _ _ (e .before .before .if1 .left) (e .before .if2 .left) (e .if3 .left)
+    let q = e .before in
+    answered (q .before .args .tree) _ _ _ _ (q .query-number .ensures) (e .if1 .left)
     _ _ _ (o .lightest-on .ensures) (x .side-of .ensures) (c .size .ensures)
 
 pub query-spec : {M : Type 1} → statement M
 query-spec =
     tie.close
     (tie.spec
+    query-number-requires
     returns
-    returns-2
-    returns-3
     lightest-on-requires
     side-of-requires
     mul-w
     array-read-w
     size-requires
-    returns-4)
+    returns-2)

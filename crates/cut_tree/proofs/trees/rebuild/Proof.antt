@@ -3,7 +3,6 @@ use mathlib.Core.Path.{_∙_}
 use Prim.Native.Nat.{_<_}
 use native.Mathlib.Omega.{arith}
 use Rattle.network.specs.Limits.{maxLinks}
-use Rattle.network.specs.Network.{Sized}
 use Rattle.network.specs.laws.NetworkLaws.{nodes-le, links-le, ends-within, change-fits}
 use Rattle.cut_tree.specs.laws.LoopLaws.{rebuilt-is}
 use borrow.Author.Needs.{needs}
@@ -12,9 +11,6 @@ use Rattle.cut_tree.proofs.trees.rebuild.Tie as tie
 
 link : (c : tie.Start) → c .args .k < maxLinks
 link c = omega (arith, c .pre .link, links-le (c .args .net) (c .pre .fits))
-
-sized : (c : tie.Start) → Sized (c .args .net)
-sized c = record { a = search needs; b = search needs; capacity = search needs }
 
 element-copy-out-new : tie.Need-element-copy-out-new
 element-copy-out-new c = link c
@@ -46,7 +42,7 @@ worked-out-requires c κs =
     let p = st .pre in
     let few = nodes-le (st .args .net) (p .fits) in
     let ends = ends-within (st .args .net) (p .fits) (st .args .k) (p .link) in (
-      change-fits (st .args .net) (st .args .k) (st .args .d) (p .link) (p .capacity) (record { fits = p .fits; sized = sized st }),
+      change-fits (st .args .net) (st .args .k) (st .args .d) (p .link) (p .capacity) (p .fits),
       record { a = omega (arith, few, ends .0); b = omega (arith, few, ends .1) },
     )
 

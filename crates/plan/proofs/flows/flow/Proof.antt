@@ -5,9 +5,9 @@ use borrow.Author.Needs.{needs}
 use borrow.Author.Tests.{eq-eqb, ne-eqb}
 use Rattle.base.specs.laws.TestLaws.{answered-yes}
 use Rattle.base.specs.Checks.{passed, here, later}
-use Rattle.base.specs.laws.ChecksLaws.{both-below}
+use Rattle.base.specs.laws.ChecksLaws.{both-below, first-outside, other-outside}
 use Rattle.plan.specs.laws.SoundFacts.{sound-row, sound-network}
-use Rattle.plan.specs.laws.FlowsLaws.{first-outside, other-outside, flow-refused, flow-filled}
+use Rattle.plan.specs.laws.FlowsLaws.{flow-refused, flow-filled}
 use Rattle.plan.proofs.flows.flow.Statement.{statement}
 use Rattle.plan.proofs.flows.flow.Tie as tie
 

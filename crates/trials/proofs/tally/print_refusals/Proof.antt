@@ -5,13 +5,10 @@ use Rattle.trials.proofs.tally.print_refusals.Statement.{statement}
 use Rattle.trials.proofs.tally.print_refusals.Tie as tie
 
 abbrev Inv-loop : tie.InvT-loop
-Inv-loop t e₀ t4 e = e ≤ 32
+Inv-loop words numbers e₀ t4 e = e ≤ 32
 
 abbrev μ-loop : tie.MeasureT-loop
-μ-loop t e₀ t4 e = 32 - e
-
-slice-aggregate-write-all : tie.Need-slice-aggregate-write-all Inv-loop μ-loop
-slice-aggregate-write-all c = search needs
+μ-loop words numbers e₀ t4 e = 32 - e
 
 write-all-requires : tie.Need-write-all-requires Inv-loop μ-loop
 write-all-requires c κs = search needs
@@ -31,8 +28,8 @@ loop-less c = search needs
 loop-again : tie.Need-loop-again Inv-loop μ-loop
 loop-again c = search needs
 
-slice-aggregate-write-all-2 : tie.Need-slice-aggregate-write-all-2 Inv-loop μ-loop
-slice-aggregate-write-all-2 c = search needs
+slice-aggregate-write-all : tie.Need-slice-aggregate-write-all Inv-loop μ-loop
+slice-aggregate-write-all c = search needs
 
 write-all-requires-2 : tie.Need-write-all-requires-2 Inv-loop μ-loop
 write-all-requires-2 c κs = search needs
@@ -46,13 +43,12 @@ print-refusals-spec =
     (tie.spec
     Inv-loop
     μ-loop
-    slice-aggregate-write-all
     write-all-requires
     loop-holds
     print-number-requires
     add-e
     loop-less
     loop-again
-    slice-aggregate-write-all-2
+    slice-aggregate-write-all
     write-all-requires-2
     returns)
