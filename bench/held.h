@@ -48,6 +48,8 @@ struct Stored {
     uint32_t count;
     pamzolit_pair_reply pair;
     pamzolit_headroom_reply headroom;
+    pamzolit_window window;
+    pamzolit_window_reply shown;
     int32_t flow[PAMZOLIT_LINKS];
     uint8_t file[PAMZOLIT_FILE_MAX];
 };
@@ -83,6 +85,12 @@ inline uint32_t preview(Plan &plan, Args a)
 inline uint32_t headroom(Plan &plan, Args a)
 {
     return pamzolit_headroom(&plan, a.first, a.second, 500, &stored.headroom);
+}
+
+// as that headroom; the record has to be reset before a million of them
+inline uint32_t reading(Plan &plan, Args a)
+{
+    return pamzolit_reading(&stored.window, &plan, a.first, a.second, 500, &stored.shown);
 }
 
 inline uint32_t flow(Plan &plan, Args a)

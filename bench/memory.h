@@ -43,11 +43,13 @@ inline std::vector<Use> stacks(const Net &net)
         {"preview", call::preview, drawn(net, 60, new_capacity)},
         {"pair", call::pair, all_ends(net)},
         {"headroom", call::headroom, all_ends(net)},
+        {"gate reading", call::reading, all_ends(net)},
         {"flow", call::flow, all_ends(net)},
         {"write", call::write, drawn(net, 1, nothing)},
     };
     Plan plan;
     uint64_t refused = 0;
+    pamzolit_reset(&stored.window);
     size_t none = thread_stack([] {});
     std::vector<Use> uses{{"open", thread_stack([&] { refused += call::open(plan, net); }) - none}};
     for (auto &a : all) {

@@ -2,7 +2,7 @@
  *
  * The functions stand in the archive libexports.a, which is written in Rattle and proved: `rt staticlib exports`
  * proves and writes it. They keep no state and allocate nothing. A plan lives in its caller's memory and is lent to
- * each call:
+ * each call, and so does the record of a gate's window:
  *
  *     struct pamzolit_plan plan;
  *     struct pamzolit_headroom_reply left;
@@ -10,26 +10,28 @@
  *     if (pamzolit_open(file, file_length, &plan, &place) != PAMZOLIT_ACCEPTED) ...
  *     if (pamzolit_headroom(&plan, s, t, demand, &left) != PAMZOLIT_ACCEPTED) ...
  *
- * What is promised. Each function but the listing returns a refusal number, 0 for none. What it is said below to store
- * it stores whether it refuses or not, and nothing else is written. A refused change or undo leaves the plan as it
- * was, and the calls that only ask leave it always. This holds of every content of the plan's memory and of every
- * other argument. A plan that is not sound is refused with 19 by every call.
+ * What is promised. Each function but the listing and the reset returns a refusal number, 0 for none. What it is said
+ * below to store it stores whether it refuses or not, and nothing else is written. A refused change or undo leaves the
+ * plan as it was, and a refused reading the record; the calls that only ask the plan leave it always. This holds of
+ * every content of the plan's and the record's memory and of every other argument. A plan that is not sound is refused
+ * with 19 by every call on a plan.
  *
  * 19 tests shape, not truth: numbers within their limits, parents that lead to node 0, a lightest edge that is the
  * tree's, unused places that are 0. Whoever edits a plan so that it keeps this shape gets answers from what the plan
  * then holds. That answers are right, limits exact and changes undone as they were made is proved of plans that come
- * from pamzolit_open, pamzolit_change and pamzolit_undo, nothing else writing them.
+ * from pamzolit_open, pamzolit_change and pamzolit_undo, nothing else writing them. What a record holds is proved of
+ * every list of resets and readings that begins with a reset, nothing else writing the record.
  *
  * What the caller owes:
  *   - no pointer is NULL; each is aligned for its type and valid for what it points to, with its length where it has
  *     one (of length 0 it may point anywhere but to NULL);
  *   - what a call writes does not overlap anything else that is handed to it;
  *   - nothing else writes what a call reads while it lasts, nor reads what it writes. A plan that is only asked (pair,
- *     preview, headroom, flow, write) may be shared among threads;
+ *     preview, headroom, flow, write, reading) may be shared among threads, each of which reads by a record of its own;
  *   - size_t has 64 bits: the assertions at the end test it, and the layout.
  *
- * Capacities, weights, demands and flows are tenths of a megabit per second. A set of nodes is a word, bit i for node
- * i. A call took at most 51 KB of stack where it was measured (`bench/run memory`); that is not proved.
+ * Capacities, weights, demands, headrooms and flows are tenths of a megabit per second. A set of nodes is a word, bit i
+ * for node i. A call took at most 51 KB of stack where it was measured (`bench/run memory`); that is not proved.
  */
 #ifndef PAMZOLIT_H
 #define PAMZOLIT_H
@@ -45,6 +47,7 @@ extern "C" {
 #define PAMZOLIT_NODES 64         /* nodes of a network, at most */
 #define PAMZOLIT_LINKS 256        /* links of a network, at most */
 #define PAMZOLIT_CHANGES 64       /* changes that can be undone, at most */
+#define PAMZOLIT_READINGS 1000000 /* readings since a reset, at most */
 #define PAMZOLIT_FILE_MAX 1283    /* bytes of the longest file */
 #define PAMZOLIT_LISTING_MAX 183040 /* the length that pamzolit_listing asks of its buffer */
 
@@ -67,15 +70,17 @@ enum pamzolit_number {
     PAMZOLIT_STACK_FULL = 12,       /* 64 changes can be undone already */
     /* of an undo */
     PAMZOLIT_NOTHING_TO_UNDO = 13,
-    /* of a pair, a preview, a headroom, a flow */
+    /* of a pair, a preview, a headroom, a flow, a reading */
     PAMZOLIT_NO_SUCH_NODE = 14,     /* s or t is not below n */
     PAMZOLIT_SAME_NODE = 15,        /* s equals t */
     PAMZOLIT_FLOW_LENGTH = 16,      /* a flow's buffer has not m places */
-    PAMZOLIT_DEMAND_TOO_LARGE = 17, /* a headroom's demand is above 1,000,000,000 */
+    PAMZOLIT_DEMAND_TOO_LARGE = 17, /* a headroom's or a reading's demand is above 1,000,000,000 */
     /* of writing */
     PAMZOLIT_BUFFER_TOO_SHORT = 18, /* the buffer is shorter than the file */
     /* of every call on a plan, before its others */
-    PAMZOLIT_NOT_SOUND = 19
+    PAMZOLIT_NOT_SOUND = 19,
+    /* of a reading, after its others */
+    PAMZOLIT_TOO_MANY_READINGS = 20 /* the record counts 1,000,000 readings or more */
 };
 
 /* ---- a plan: 3,104 bytes without padding or pointers, which may be copied, compared and saved as they are */
@@ -130,6 +135,18 @@ struct pamzolit_plan {
     struct pamzolit_edge lightest;
 };
 
+/* ---- the record of a gate's window: 12 bytes, which may be copied, compared and saved as a plan may */
+
+/* The running numbers of a gate: the headroom of its last reading, the lowest since the reset, and how many readings
+ * there were. After any list of resets and readings that begins with a reset, nothing else writing the record, count is
+ * that of the readings accepted since the last reset, lowest the least of their headrooms and last the latest, both 0
+ * if there is none. */
+struct pamzolit_window {
+    int32_t last;
+    int32_t lowest;
+    uint32_t count;
+};
+
 /* ---- replies */
 
 /* The lightest edge of the path between s and t in the cut tree, the one with the lowest node number among equals, so
@@ -150,6 +167,13 @@ struct pamzolit_headroom_reply {
     uint32_t number;
     int32_t value;
     uint8_t text[12];
+};
+
+/* What the window shows: the headroom in megabits, four characters without a terminating 0. From -9.9 to 99.9 they are
+ * right-aligned with one digit of tenths; below they are "LOW ", above "HIGH". Beside a refusal they are spaces. */
+struct pamzolit_window_reply {
+    uint32_t number;
+    uint8_t text[4];
 };
 
 /* ---- calls on a plan; each returns its refusal number */
@@ -178,6 +202,12 @@ uint32_t pamzolit_preview(const struct pamzolit_plan *plan, size_t link, uint32_
 uint32_t pamzolit_headroom(const struct pamzolit_plan *plan, size_t s, size_t t, uint32_t demand,
                            struct pamzolit_headroom_reply *reply);
 
+/* Reads a headroom into a gate's record and shows it (19, 14, 15, 17, 20): it becomes the last, and the lowest too if
+ * count was 0 or the lowest was above it; count goes up by 1. This holds of every record, also of one that no reset
+ * made. Beside a refusal the record is left as it was. reply->number is what is returned. */
+uint32_t pamzolit_reading(struct pamzolit_window *window, const struct pamzolit_plan *plan, size_t s, size_t t,
+                          uint32_t demand, struct pamzolit_window_reply *reply);
+
 /* A flow from s to t that no other exceeds (19, 14, 15, 16): out gets one number for each link, positive from a to b.
  * Beside a refusal out is left as it was. */
 uint32_t pamzolit_flow(const struct pamzolit_plan *plan, size_t s, size_t t, int32_t *out, size_t out_length);
@@ -185,6 +215,11 @@ uint32_t pamzolit_flow(const struct pamzolit_plan *plan, size_t s, size_t t, int
 /* Writes the plan's file to the first bytes of out (19, 18) and leaves the rest; *used is its length. Beside a
  * refusal out is left as it was, and *used is 0. */
 uint32_t pamzolit_write(const struct pamzolit_plan *plan, uint8_t *out, size_t out_length, size_t *used);
+
+/* ---- a call on a record */
+
+/* Makes all three numbers 0. The record's memory may hold anything before. */
+void pamzolit_reset(struct pamzolit_window *window);
 
 /* ---- a call on a file */
 
@@ -240,6 +275,11 @@ PAMZOLIT_AT(pamzolit_plan, steps, 1872);
 PAMZOLIT_AT(pamzolit_plan, stack, 2704);
 PAMZOLIT_AT(pamzolit_plan, lightest, 3096);
 
+PAMZOLIT_SIZE(pamzolit_window, 12);
+PAMZOLIT_AT(pamzolit_window, last, 0);
+PAMZOLIT_AT(pamzolit_window, lowest, 4);
+PAMZOLIT_AT(pamzolit_window, count, 8);
+
 PAMZOLIT_SIZE(pamzolit_pair_reply, 32);
 PAMZOLIT_AT(pamzolit_pair_reply, number, 0);
 PAMZOLIT_AT(pamzolit_pair_reply, weight, 4);
@@ -251,6 +291,10 @@ PAMZOLIT_SIZE(pamzolit_headroom_reply, 20);
 PAMZOLIT_AT(pamzolit_headroom_reply, number, 0);
 PAMZOLIT_AT(pamzolit_headroom_reply, value, 4);
 PAMZOLIT_AT(pamzolit_headroom_reply, text, 8);
+
+PAMZOLIT_SIZE(pamzolit_window_reply, 8);
+PAMZOLIT_AT(pamzolit_window_reply, number, 0);
+PAMZOLIT_AT(pamzolit_window_reply, text, 4);
 
 #undef PAMZOLIT_AT
 #undef PAMZOLIT_SIZE

@@ -75,6 +75,21 @@ pub struct HeadroomReply {
     pub text: [u8; 12],
 }
 
+#[repr(C)]
+#[derive(Clone, Default, PartialEq, Eq, Hash)]
+pub struct Window {
+    pub last: i32,
+    pub lowest: i32,
+    pub count: u32,
+}
+
+#[repr(C)]
+#[derive(Default)]
+pub struct WindowReply {
+    pub number: u32,
+    pub text: [u8; 4],
+}
+
 // the header's assertions
 const _: () = assert!(size_of::<Plan>() == 3104 && align_of::<Plan>() == 8);
 const _: () = assert!(offset_of!(Plan, network.a) == 16 && offset_of!(Plan, network.b) == 272);
@@ -86,6 +101,9 @@ const _: () = assert!(offset_of!(Plan, stack.link) == 2712 && offset_of!(Plan, s
 const _: () = assert!(offset_of!(Plan, lightest.node) == 3096 && offset_of!(Plan, lightest.weight) == 3100);
 const _: () = assert!(size_of::<PairReply>() == 32 && offset_of!(PairReply, node) == 16);
 const _: () = assert!(size_of::<HeadroomReply>() == 20 && offset_of!(HeadroomReply, text) == 8);
+const _: () = assert!(size_of::<Window>() == 12 && align_of::<Window>() == 4);
+const _: () = assert!(offset_of!(Window, lowest) == 4 && offset_of!(Window, count) == 8);
+const _: () = assert!(size_of::<WindowReply>() == 8 && offset_of!(WindowReply, text) == 4);
 
 unsafe extern "C" {
     fn pamzolit_open(file: *const u8, file_length: usize, plan: &mut Plan, place: &mut usize) -> u32;
@@ -102,6 +120,15 @@ unsafe extern "C" {
         count: &mut u32,
     ) -> u32;
     fn pamzolit_headroom(plan: &Plan, s: usize, t: usize, demand: u32, reply: &mut HeadroomReply) -> u32;
+    fn pamzolit_reset(window: &mut Window);
+    fn pamzolit_reading(
+        window: &mut Window,
+        plan: &Plan,
+        s: usize,
+        t: usize,
+        demand: u32,
+        reply: &mut WindowReply,
+    ) -> u32;
     fn pamzolit_flow(plan: &Plan, s: usize, t: usize, out: *mut i32, out_length: usize) -> u32;
     fn pamzolit_write(plan: &Plan, out: *mut u8, out_length: usize, used: &mut usize) -> u32;
     fn pamzolit_listing(file: *const u8, file_length: usize, out: *mut u8, out_length: usize) -> usize;
@@ -163,6 +190,18 @@ pub fn headroom(plan: &Plan, s: usize, t: usize, demand: u32) -> Result<Headroom
     let mut reply = HeadroomReply::default();
     // SAFETY: the plan is only read, the reply is borrowed for the call alone.
     let number = unsafe { pamzolit_headroom(plan, s, t, demand, &mut reply) };
+    accepted(number, reply)
+}
+
+pub fn reset(window: &mut Window) {
+    // SAFETY: the record is borrowed for the call alone.
+    unsafe { pamzolit_reset(window) }
+}
+
+pub fn reading(window: &mut Window, plan: &Plan, s: usize, t: usize, demand: u32) -> Result<WindowReply, u32> {
+    let mut reply = WindowReply::default();
+    // SAFETY: the plan is only read, record and reply are borrowed for the call alone.
+    let number = unsafe { pamzolit_reading(window, plan, s, t, demand, &mut reply) };
     accepted(number, reply)
 }
 

@@ -1,10 +1,10 @@
 //! The link plan: how much traffic can run between any two nodes of a network, and which links set that limit.
 //!
 //! A [`Plan`] is opened from a resort's network file and then asked all day. It follows changed capacities and
-//! takes them back, and shows beforehand what a change would give:
+//! takes them back, and shows beforehand what a change would give. A [`Window`] keeps a gate's running numbers:
 //!
 //! ```
-//! use pamzolit::{Link, Node, Plan};
+//! use pamzolit::{Link, Node, Plan, Window};
 //!
 //! // four nodes and five links: resort A of document 01
 //! let file = [4, 5, 0, 1, 5, 1, 2, 3, 2, 3, 4, 0, 3, 2, 0, 2, 1];
@@ -20,6 +20,12 @@
 //! println!("with link 3 at 1.2: {}", plan.headroom(Node(1), Node(3), booked)?);
 //! # assert_eq!(plan.headroom(Node(1), Node(3), booked)?.to_string(), "-0.3");
 //! plan.undo()?;
+//! let mut window = Window::new();
+//! for booked in [2, 11, 5] {
+//!     println!("the gate shows [{}]", window.reading(&plan, Node(1), Node(3), booked)?);
+//! }
+//! println!("the lowest of {} was {} tenths", window.count(), window.lowest());
+//! # assert_eq!(window, Window::resume(1, -5, 3));
 //! # Ok::<(), Box<dyn std::error::Error>>(())
 //! ```
 //!
@@ -40,6 +46,9 @@
 //!   A `Plan` has no other way to come about, so this holds of every one.
 //! - [`Plan::preview`] gives what a change followed by a pair gives on a copy. Wherever it stands in such a list, the
 //!   plan and all other replies are as without it.
+//! - After any list of resets and readings that begins with a reset, refused ones among them, a [`Window`] counts the
+//!   readings accepted since the last reset; its lowest is the least of their headrooms and its last the latest, both
+//!   0 if there is none. What a reading does is proved of every three numbers that a window may be given.
 //!
 //! # What is not
 //!
@@ -47,8 +56,8 @@
 //! Its declarations of the archive's functions and structs are tested against an independent model, not proved, and
 //! so are the compiler's back end and the linking. Nothing is said of time.
 //!
-//! Nothing here panics on bad input or allocates by a caller's number. A plan is plain data of 3,104 bytes, and
-//! `Send` and `Sync`.
+//! Nothing here panics on bad input or allocates by a caller's number. A plan is plain data of 3,104 bytes, a window of
+//! 12, and both are `Send` and `Sync`.
 #![deny(missing_docs, unsafe_code)]
 
 mod ffi;
@@ -56,11 +65,13 @@ mod plan;
 mod refusal;
 mod reply;
 mod side;
+mod window;
 
 pub use plan::Plan;
 pub use refusal::{FileError, Refusal};
 pub use reply::{Change, Headroom, LinkState, Pair, Preview, Step, TreeEdge};
 pub use side::{Link, Node, Nodes, Side};
+pub use window::{Shown, Window};
 
 /// The most nodes of a network.
 ///
@@ -90,7 +101,7 @@ pub const LINKS_MAX: usize = 256;
 /// ```
 pub const CAPACITY_MAX: u32 = 1_000_000;
 
-/// The highest demand of a headroom, in tenths of a megabit per second.
+/// The highest demand of a headroom or a reading, in tenths of a megabit per second.
 ///
 /// ```
 /// # use pamzolit::{DEMAND_MAX, Node, Plan};
@@ -114,6 +125,18 @@ pub const DEMAND_MAX: u32 = 1_000_000_000;
 /// # Ok::<(), Box<dyn std::error::Error>>(())
 /// ```
 pub const CHANGES_MAX: usize = 64;
+
+/// The most readings of a window without a reset.
+///
+/// ```
+/// # use pamzolit::{Node, Plan, READINGS_MAX, Refusal, Window};
+/// let plan = Plan::open(&[2, 1, 0, 1, 6])?;
+/// let mut window = Window::resume(0, 0, READINGS_MAX - 1);
+/// assert!(window.reading(&plan, Node(0), Node(1), 0).is_ok());
+/// assert_eq!(window.reading(&plan, Node(0), Node(1), 0), Err(Refusal::TooManyReadings));
+/// # Ok::<(), pamzolit::FileError>(())
+/// ```
+pub const READINGS_MAX: u32 = 1_000_000;
 
 /// The bytes of the longest file.
 ///

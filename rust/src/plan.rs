@@ -360,6 +360,11 @@ impl Plan {
         let stack = &self.held.stack;
         (0..stack.depth).map(|i| Change { link: Link(stack.link[i].into()), before: stack.capacity[i] })
     }
+
+    // what a reading asks
+    pub(crate) fn held(&self) -> &ffi::Plan {
+        &self.held
+    }
 }
 
 impl fmt::Debug for Plan {

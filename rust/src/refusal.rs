@@ -101,7 +101,8 @@ impl fmt::Display for FileError {
 
 impl Error for FileError {}
 
-/// Why a call is refused: the first check in document 01's order that fails. A refused call alters nothing.
+/// Why a call is refused: the first check that fails, in the order of documents 01 and 02. A refused call alters
+/// nothing.
 ///
 /// ```
 /// use pamzolit::{Link, Node, Plan, Refusal};
@@ -136,6 +137,8 @@ pub enum Refusal {
     /// 19: the plan is not sound. No [`Plan`](crate::Plan) gets this: its memory is written by open, change and
     /// undo alone.
     NotSound,
+    /// 20: the window counts [`READINGS_MAX`](crate::READINGS_MAX) readings or more.
+    TooManyReadings,
     /// A number that this version of the crate does not know. Its own archive never gives one.
     Unknown(u32),
 }
@@ -153,6 +156,7 @@ impl Refusal {
             17 => Refusal::DemandTooLarge,
             18 => Refusal::BufferTooShort,
             19 => Refusal::NotSound,
+            20 => Refusal::TooManyReadings,
             _ => Refusal::Unknown(number),
         }
     }
@@ -170,11 +174,12 @@ impl Refusal {
             Refusal::DemandTooLarge => (17, "the demand is above the limit"),
             Refusal::BufferTooShort => (18, "the buffer is shorter than the file"),
             Refusal::NotSound => (19, "the plan is not sound"),
+            Refusal::TooManyReadings => (20, "no more readings are counted without a reset"),
             Refusal::Unknown(number) => (number, "an unknown refusal"),
         }
     }
 
-    /// Its number in document 01's table of checks.
+    /// Its number in the documents' table of checks.
     ///
     /// ```
     /// # use pamzolit::Refusal;

@@ -4,7 +4,7 @@
 mod model;
 #[path = "random/mod.rs"]
 mod random;
-use pamzolit::{FileError, Link, Node, Plan, Refusal, Side};
+use pamzolit::{FileError, Link, Node, Plan, Refusal, Shown, Side, Window};
 use random::Random;
 use std::hint::black_box;
 
@@ -95,6 +95,25 @@ fn previews_out_of_range() {
 }
 
 #[test]
+fn readings_out_of_range() {
+    for plan in plans().into_iter().chain([full_plan()]) {
+        let first = black_box(plan.clone());
+        for (s, t) in NUMBERS.into_iter().flat_map(|s| NUMBERS.map(|t| (s, t))) {
+            let of_pair = refusal_of_pair(&plan, s, t);
+            for (demand, count) in WORDS.into_iter().flat_map(|demand| WORDS.map(|count| (demand, count))) {
+                let before = Window::resume(i32::MIN, i32::MAX, count);
+                let mut window = before.clone();
+                let rows = [(17, demand > 1_000_000_000), (20, count >= 1_000_000)];
+                let right = of_pair.or(rows.into_iter().find(|row| row.1).map(|row| row.0));
+                assert_eq!(refusal(window.reading(&plan, Node(s), Node(t), demand)), right);
+                assert_eq!(window == before, right.is_some());
+            }
+        }
+        assert!(*black_box(&plan) == first);
+    }
+}
+
+#[test]
 fn buffers_of_every_length() {
     for plan in plans() {
         let file = plan.write();
@@ -151,6 +170,11 @@ fn looks_and_words() {
         assert_eq!(format!("{headroom:500}").len(), 500);
         assert_eq!(format!("{headroom:?}"), format!("Headroom({tenths})"));
     }
+    let mut window = Window::new();
+    let shown = window.reading(&plan, Node(0), Node(1), 10).unwrap();
+    assert_eq!((shown.to_string(), format!("{shown:>6}")), ("-0.5".to_string(), "  -0.5".to_string()));
+    assert_eq!(format!("{shown:?} {:?}", Shown::default()), r#"Shown("-0.5") Shown("    ")"#);
+    assert_eq!(format!("{window:?}"), "Window { last: -5, lowest: -5, count: 1 }");
     let all: Vec<Node> = Side::from_bits(u64::MAX).into_iter().rev().collect();
     assert_eq!((all.len(), all[0], all[63]), (64, Node(63), Node(0)));
 }
@@ -161,10 +185,13 @@ fn a_plan_may_be_shared() {
     std::thread::scope(|threads| {
         for _ in 0..4 {
             threads.spawn(|| {
+                let mut window = Window::new();
                 for capacity in 0..1000 {
+                    window.reading(&plan, Node(0), Node(1), capacity).unwrap();
                     assert_eq!(plan.preview(Link(0), capacity, Node(0), Node(1)).unwrap().pair.weight, capacity);
                     assert_eq!(plan.pair(Node(0), Node(1)).unwrap().weight, 5);
                 }
+                assert_eq!(window, Window::resume(5 - 999, 5 - 999, 1000));
             });
         }
     });

@@ -1,7 +1,8 @@
-//! The lines of tests/c/life.out by the independent model: what resort A's life in C's memory must print. With
-//! `-- --nocapture` they are printed.
+//! The lines of tests/c/life.out and of examples/evening.out by the independent model: what resort A's life in C's
+//! memory must print, and a gate's evening. With `-- --nocapture` they are printed.
 #[path = "model/mod.rs"]
 mod model;
+use model::window::{self, List, Numbers, Reply, Told};
 use model::{Network, Plan};
 use std::fmt::Write;
 
@@ -122,9 +123,49 @@ impl Lines {
         }
     }
 
+    fn window(&mut self, what: &str, (last, lowest, count): Numbers) {
+        self.say(format!("{what} last {last}, lowest {lowest}, count {count}"));
+    }
+
+    fn reset(&mut self, list: &mut List) {
+        list.reset();
+        self.window("reset:", list.numbers());
+    }
+
+    fn reading(&mut self, call: String, (number, text): Reply, numbers: Numbers) {
+        match number {
+            0 => self.window(&format!("{call}: [{text}]"), numbers),
+            _ => self.say(format!("{call}: refused {number}")),
+        }
+    }
+
+    fn readings(&mut self, list: &mut List, plan: &Plan, (s, t): (usize, usize), demands: &[u32]) {
+        for &demand in demands {
+            let reply = list.reading(plan.headroom(s, t, demand));
+            self.reading(format!("reading {s} {t}, demand {demand}"), reply, list.numbers());
+        }
+    }
+
+    fn booked(&mut self, list: &mut List, plan: &Plan, times: &[(&str, u32)]) {
+        for (time, demand) in times {
+            let (number, text) = list.reading(plan.headroom(1, 3, *demand));
+            let lowest = list.numbers().1;
+            let behind = if number == 0 { format!("lowest {lowest}") } else { format!("refused {number}") };
+            self.say(format!("{time} booked {demand:>10}: [{text}] {behind}"));
+        }
+    }
+
     fn opening(&mut self, what: String, file: &[u8]) {
         let (number, place) = model::read(file).map_or_else(|f| (f.number, f.place), |_| (0, 0));
         self.say(format!("open{what}: number {number}, place {place}"));
+    }
+
+    fn must_be(&self, stored: &str) {
+        print!("{}", self.0);
+        for (i, (want, line)) in self.0.lines().zip(stored.lines()).enumerate() {
+            assert_eq!(line, want, "line {}", i + 1);
+        }
+        assert_eq!(stored, self.0);
     }
 }
 
@@ -187,6 +228,42 @@ fn refused(lines: &mut Lines) {
     }
 }
 
+fn read(lines: &mut Lines) {
+    let some = [0, 11, 6, 7, 5];
+    let mut plan = resort_a();
+    let mut list = List::of(vec![Told::Reset]);
+    lines.window("reset:", list.numbers());
+    lines.reset(&mut list);
+    lines.readings(&mut list, &plan, (1, 3), &some);
+    plan.change(2, 0).unwrap();
+    lines.readings(&mut list, &plan, (3, 1), &some);
+    lines.readings(&mut list, &plan, (1, 3), &[1_000_000_001]);
+    plan.undo().unwrap();
+    lines.readings(&mut list, &plan, (1, 3), &[105, 106, 107, 1_000_000_000, 0]);
+    lines.reset(&mut list);
+    for pair in NO_PAIRS {
+        lines.readings(&mut list, &plan, pair, &[1_000_000_001]);
+    }
+    plan.change(4, 1_000_000).unwrap();
+    lines.readings(&mut list, &plan, (0, 2), &[999_997, 999_906, 999_905, 999_006, 999_005, 0, u32::MAX]);
+    lines.readings(&mut list, &plan, (0, 1), &[4]);
+}
+
+fn read_any_record(lines: &mut Lines) {
+    let (low, high) = (i32::MIN as i64, i32::MAX as i64);
+    let few = [(1, low, 0), (low, high, 0), (high, low, 1), (0, high, 1)];
+    let many = [(3, -6, 999_998), (3, 2, 1_000_000), (3, 2, 1_000_001), (low, high, u32::MAX as u64)];
+    let faulty = [(0, 4, 1_000_000_001), (2, 2, 1_000_000_001), (1, 3, 1_000_000_001)];
+    for mut record in few.into_iter().chain(many) {
+        lines.window("record:", record);
+        for (s, t, demand) in faulty.into_iter().chain([(1, 3, 11), (1, 3, 13), (1, 3, 5)]) {
+            let (behind, reply) = window::reading(record, resort_a().headroom(s, t, demand));
+            lines.reading(format!("reading {s} {t}, demand {demand}"), reply, behind);
+            record = behind;
+        }
+    }
+}
+
 fn stacked(lines: &mut Lines) {
     let mut plan = resort_a();
     let counts: String =
@@ -238,13 +315,25 @@ fn opened(lines: &mut Lines) {
 #[test]
 fn life_of_resort_a() {
     let mut lines = Lines(String::new());
-    for part in [asked, changed, refused, stacked, written, opened] {
+    for part in [asked, changed, refused, read, read_any_record, stacked, written, opened] {
         part(&mut lines);
     }
-    print!("{}", lines.0);
-    let stored = include_str!("../../tests/c/life.out");
-    for (i, (want, line)) in lines.0.lines().zip(stored.lines()).enumerate() {
-        assert_eq!(line, want, "line {}", i + 1);
-    }
-    assert_eq!(stored, lines.0);
+    lines.must_be(include_str!("../../tests/c/life.out"));
+}
+
+/// A gate's evening between nodes 1 and 3.
+#[test]
+fn evening_of_resort_a() {
+    let (mut lines, mut list, mut plan) = (Lines(String::new()), List::of(vec![Told::Reset]), resort_a());
+    lines.say("16:00 the gate opens");
+    lines.booked(&mut list, &plan, &[("16:05", 1), ("17:00", 3), ("18:00", 5)]);
+    plan.change(2, 0).unwrap();
+    lines.say("18:20 link 2 fails");
+    lines.booked(&mut list, &plan, &[("18:30", 5), ("18:40", 2_000_000_000), ("18:41", 4)]);
+    plan.undo().unwrap();
+    lines.say("18:50 link 2 is repaired");
+    lines.booked(&mut list, &plan, &[("19:00", 6), ("20:00", 4), ("21:30", 2)]);
+    let (last, lowest, count) = list.numbers();
+    lines.say(format!("22:00 the gate closes: {count} readings, lowest {lowest}, last {last}"));
+    lines.must_be(include_str!("../../examples/evening.out"));
 }

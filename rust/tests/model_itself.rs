@@ -1,8 +1,9 @@
 //! The model against the readings, its two ways to a least cut against each other, its pairs against a walk
-//! in the tree, its lightest edge against every side and every pair, its previews against sentences and table, and the
-//! stored listings against the model.
+//! in the tree, its lightest edge against every side and every pair, its previews against sentences and table, its gate
+//! windows against values by hand and against each other, and the stored listings against the model.
 mod model;
 mod random;
+use model::window::{self, List, Told, shown};
 use model::{Plan, Tree};
 use random::Random;
 use std::fs;
@@ -186,6 +187,119 @@ fn refusals_of_previews() {
                 let first = rows.into_iter().find(|row| row.1).map(|row| row.0);
                 assert_eq!(plan.preview(k, c, s, t).err(), first, "link {k} to {c}, pair {s} {t}");
             }
+        }
+    }
+}
+
+/// Worked out by hand from the request's sentence: one digit of tenths from -9.9 to 99.9, `LOW ` below, `HIGH` above.
+#[test]
+fn looks_of_windows() {
+    let cases = [
+        (-999_999_999, "LOW "),
+        (-101, "LOW "),
+        (-100, "LOW "),
+        (-99, "-9.9"),
+        (-90, "-9.0"),
+        (-11, "-1.1"),
+        (-10, "-1.0"),
+        (-9, "-0.9"),
+        (-5, "-0.5"),
+        (-1, "-0.1"),
+        (0, " 0.0"),
+        (1, " 0.1"),
+        (9, " 0.9"),
+        (10, " 1.0"),
+        (99, " 9.9"),
+        (100, "10.0"),
+        (101, "10.1"),
+        (990, "99.0"),
+        (999, "99.9"),
+        (1000, "HIGH"),
+        (256_000_000, "HIGH"),
+    ];
+    for (tenths, text) in cases {
+        assert_eq!(shown(tenths), text, "{tenths} tenths");
+    }
+    assert!((-200..1200).all(|tenths| shown(tenths).len() == 4));
+}
+
+/// Worked out by hand: the calls of a list, each with its reply and the three numbers behind it.
+#[test]
+fn windows_by_hand() {
+    let mut list = List::of(vec![Told::Reset]);
+    assert_eq!(list.numbers(), (0, 0, 0));
+    let calls = [
+        // refused before any is accepted
+        (Told::Reading(Err(14)), 14, "    ", (0, 0, 0)),
+        // the first is the lowest, also above 0
+        (Told::Reading(Ok(7)), 0, " 0.7", (7, 7, 1)),
+        (Told::Reading(Ok(12)), 0, " 1.2", (12, 7, 2)),
+        (Told::Reading(Err(17)), 17, "    ", (12, 7, 2)),
+        (Told::Reading(Ok(-5)), 0, "-0.5", (-5, -5, 3)),
+        (Told::Reading(Ok(0)), 0, " 0.0", (0, -5, 4)),
+        (Told::Reset, 0, "", (0, 0, 0)),
+        (Told::Reset, 0, "", (0, 0, 0)),
+        (Told::Reading(Ok(1000)), 0, "HIGH", (1000, 1000, 1)),
+        (Told::Reading(Ok(-100)), 0, "LOW ", (-100, -100, 2)),
+        (Told::Reading(Ok(-100)), 0, "LOW ", (-100, -100, 3)),
+        (Told::Reading(Ok(3)), 0, " 0.3", (3, -100, 4)),
+    ];
+    for (told, number, text, numbers) in calls {
+        match told {
+            Told::Reset => list.reset(),
+            Told::Reading(headroom) => assert_eq!(list.reading(headroom), (number, text.to_string())),
+        }
+        assert_eq!(list.numbers(), numbers, "{list:?}");
+    }
+}
+
+/// Worked out by hand: a record that no reset made, a headroom or its refusal, the record behind it, number and text.
+#[test]
+fn readings_of_any_record() {
+    let (low, high) = (i32::MIN as i64, i32::MAX as i64);
+    let cases = [
+        // none counted: the lowest takes no part
+        ((5, -7, 0), Ok(3), (3, 3, 1), 0, " 0.3"),
+        ((high, low, 0), Ok(-5), (-5, -5, 1), 0, "-0.5"),
+        ((low, high, 0), Ok(1000), (1000, 1000, 1), 0, "HIGH"),
+        // one counted: it does
+        ((5, -7, 1), Ok(3), (3, -7, 2), 0, " 0.3"),
+        ((5, -7, 1), Ok(-8), (-8, -8, 2), 0, "-0.8"),
+        ((high, high, 1), Ok(4), (4, 4, 2), 0, " 0.4"),
+        ((high, low, 1), Ok(4), (4, low, 2), 0, " 0.4"),
+        // the limit
+        ((1, 1, 999_998), Ok(2), (2, 1, 999_999), 0, " 0.2"),
+        ((1, 1, 999_999), Ok(0), (0, 0, 1_000_000), 0, " 0.0"),
+        ((1, 1, 1_000_000), Ok(0), (1, 1, 1_000_000), 20, "    "),
+        ((1, 1, 1_000_001), Ok(0), (1, 1, 1_000_001), 20, "    "),
+        ((1, 1, 4_294_967_295), Ok(0), (1, 1, 4_294_967_295), 20, "    "),
+        // a headroom's refusals come first
+        ((1, 1, 1_000_000), Err(17), (1, 1, 1_000_000), 17, "    "),
+        ((1, 1, 1_000_000), Err(14), (1, 1, 1_000_000), 14, "    "),
+        ((1, 1, 3), Err(15), (1, 1, 3), 15, "    "),
+    ];
+    for (before, headroom, after, number, text) in cases {
+        assert_eq!(window::reading(before, headroom), (after, (number, text.to_string())), "{before:?} {headroom:?}");
+    }
+}
+
+/// A list's numbers are those of its readings made one by one, from its last reset on.
+#[test]
+fn lists_by_single_readings() {
+    let mut random = Random::new(17);
+    for _ in 0..2000 {
+        let mut list = List::of(vec![Told::Reset]);
+        let mut numbers = (0, 0, 0);
+        for _ in 0..random.below(30) {
+            if random.chance(10) {
+                list.reset();
+                numbers = (0, 0, 0);
+                continue;
+            }
+            let headroom = if random.chance(20) { Err(14) } else { Ok(random.below(2400) as i64 - 1200) };
+            let (behind, reply) = window::reading(numbers, headroom);
+            assert_eq!((list.reading(headroom), list.numbers()), (reply, behind), "{list:?}");
+            numbers = behind;
         }
     }
 }

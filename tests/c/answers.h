@@ -8,6 +8,7 @@
 #include "pairs.h"
 #include "sound.h"
 #include "table.h"
+#include "windows.h"
 
 /* ---- an accepted change or undo sets one capacity and the stack, and leaves a plan that is sound: its lightest edge
  * is that of its new tree */
@@ -41,7 +42,7 @@ static inline void must_have_undone(const struct pamzolit_plan *was, const struc
     must_have_set(was, desk, was->stack.link[top], was->stack.capacity[top]);
 }
 
-/* ---- the reply that an accepted call left on the desk, `was` being the plan that it was given */
+/* ---- what an accepted call left on the desk, `was` being what it was lent */
 
 static inline void must_have_paired(const struct pamzolit_plan *plan, const struct desk *desk, const struct question *q)
 {
@@ -59,6 +60,19 @@ static inline void must_have_previewed(const struct pamzolit_plan *was, const st
     must_have_paired(&copy, desk, q);
 }
 
+/* how often a window of each look was shown */
+static size_t looks[LOOKS];
+
+static inline void must_have_read(const struct lent *was, const struct desk *desk, const struct question *q)
+{
+    int32_t headroom = headroom_of(pair_of(&was->plan, q->s, q->t).weight, q->demand).value;
+    struct pamzolit_window window = window_behind(was->window, headroom);
+    struct pamzolit_window_reply shown = shown_of(headroom);
+    MUST(same_window(&window, &desk->window));
+    MUST(memcmp(&shown, &desk->shown, sizeof shown) == 0);
+    looks[look_of(headroom)]++;
+}
+
 static inline void must_have_flowed(const struct pamzolit_network *net, const int32_t *flow, size_t s, size_t t)
 {
     MUST(lawful(net, flow, s, t));
@@ -71,39 +85,42 @@ static inline void must_have_written(const struct pamzolit_network *net, const s
     MUST(desk->used == want.length && memcmp(desk->file, want.bytes, want.length) == 0);
 }
 
-static inline void must_have_answered(enum call call, const struct pamzolit_plan *was, const struct desk *desk,
+static inline void must_have_answered(enum call call, const struct lent *was, const struct desk *desk,
                                       const struct question *q)
 {
+    const struct pamzolit_plan *plan = &was->plan;
     struct pamzolit_headroom_reply headroom;
     switch (call) {
-    case CHANGE: must_have_changed(was, desk, q); break;
-    case UNDO: must_have_undone(was, desk); break;
-    case PAIR: must_have_paired(was, desk, q); break;
-    case PREVIEW: must_have_previewed(was, desk, q); break;
+    case CHANGE: must_have_changed(plan, desk, q); break;
+    case UNDO: must_have_undone(plan, desk); break;
+    case PAIR: must_have_paired(plan, desk, q); break;
+    case PREVIEW: must_have_previewed(plan, desk, q); break;
     case HEADROOM:
-        headroom = headroom_of(pair_of(was, q->s, q->t).weight, q->demand);
+        headroom = headroom_of(pair_of(plan, q->s, q->t).weight, q->demand);
         MUST(memcmp(&headroom, &desk->headroom, sizeof headroom) == 0);
         break;
-    case FLOW: must_have_flowed(&was->network, desk->flow, q->s, q->t); break;
-    default: must_have_written(&was->network, desk);
+    case READING: must_have_read(was, desk, q); break;
+    case FLOW: must_have_flowed(&plan->network, desk->flow, q->s, q->t); break;
+    default: must_have_written(&plan->network, desk);
     }
 }
 
 /* how often each call gave each number */
-static size_t given[CALLS][PAMZOLIT_NOT_SOUND + 1];
+static size_t given[CALLS][PAMZOLIT_TOO_MANY_READINGS + 1];
 
-/* all seven calls, each on the desk's plan as it is now; whether it is sound */
+/* all eight calls, each on the desk's plan and record as they are now; whether the plan is sound */
 static inline bool must_answer_all(struct desk *desk, const struct question *q)
 {
-    struct pamzolit_plan was = desk->plan;
-    bool keeps_shape = sound(&was);
+    struct lent was = {desk->plan, desk->window};
+    bool keeps_shape = sound(&was.plan);
     for (enum call call = 0; call < CALLS; call++) {
         uint32_t number = keeps_shape ? number_of(call, &was, q) : 19;
         MUST(called(call, desk, q) == number);
         given[call][number]++;
         if (number == 0)
             must_have_answered(call, &was, desk, q);
-        desk->plan = was;
+        desk->plan = was.plan;
+        desk->window = was.window;
     }
     return keeps_shape;
 }
@@ -118,12 +135,19 @@ static inline void must_have_met_all_rows(size_t least)
         [PAIR] = {0, 14, 15, 19},
         [PREVIEW] = {0, 10, 11, 12, 14, 15, 19},
         [HEADROOM] = {0, 14, 15, 17, 19},
+        [READING] = {0, 14, 15, 17, 19, 20},
         [FLOW] = {0, 14, 15, 16, 19},
         [WRITE] = {0, 18, 19},
     };
     for (enum call call = 0; call < CALLS; call++)
         for (int i = 0; i < NUMBERS; i++)
             MUST(given[call][numbers[call][i]] >= least);
+}
+
+static inline void must_have_met_all_looks(size_t least)
+{
+    for (enum look look = 0; look < LOOKS; look++)
+        MUST(looks[look] >= least);
 }
 
 #endif

@@ -5,6 +5,7 @@
 
 #include "files.h"
 #include "flows.h"
+#include "windows.h"
 
 struct blocks {
     struct pamzolit_plan *plan;
@@ -13,6 +14,8 @@ struct blocks {
     uint32_t *count;
     struct pamzolit_pair_reply *pair;
     struct pamzolit_headroom_reply *headroom;
+    struct pamzolit_window *window;
+    struct pamzolit_window_reply *shown;
     int32_t *flow;
 };
 
@@ -28,7 +31,7 @@ static inline struct blocks lend_blocks(const struct file *file, size_t links)
     struct blocks lent = {
         block(sizeof *lent.plan), block(file->length), block(file->length), block(sizeof *lent.place),
         block(sizeof *lent.used), block(sizeof *lent.count), block(sizeof *lent.pair), block(sizeof *lent.headroom),
-        block(links * sizeof *lent.flow),
+        block(sizeof *lent.window), block(sizeof *lent.shown), block(links * sizeof *lent.flow),
     };
     for (size_t i = 0; i < file->length; i++)
         lent.file[i] = file->bytes[i];
@@ -38,7 +41,7 @@ static inline struct blocks lend_blocks(const struct file *file, size_t links)
 static inline void free_blocks(struct blocks *lent)
 {
     void *all[] = {lent->plan, lent->file, lent->out, lent->place, lent->used, lent->count, lent->pair, lent->headroom,
-                   lent->flow};
+                   lent->window, lent->shown, lent->flow};
     for (size_t i = 0; i < sizeof all / sizeof all[0]; i++)
         free(all[i]);
 }
@@ -56,6 +59,11 @@ static inline void call_in_blocks(const struct file *file, size_t links)
     MUST(pamzolit_pair(plan, 1, 0, lent.pair) == 0 && lent.pair->side & 2);
     MUST(pamzolit_headroom(plan, 1, 0, 0, lent.headroom) == 0);
     MUST(lent.headroom->value == (int32_t)lent.pair->weight);
+    struct pamzolit_window window = {lent.headroom->value, lent.headroom->value, 1};
+    struct pamzolit_window_reply shown = shown_of(lent.headroom->value);
+    pamzolit_reset(lent.window);
+    MUST(pamzolit_reading(lent.window, plan, 1, 0, 0, lent.shown) == 0 && same_window(lent.window, &window));
+    MUST(memcmp(lent.shown, &shown, sizeof shown) == 0);
     MUST(pamzolit_flow(plan, 1, 0, lent.flow, links) == 0);
     MUST(lawful(&plan->network, lent.flow, 1, 0) && leaves(&plan->network, lent.flow, 1) == lent.pair->weight);
     MUST(pamzolit_write(plan, lent.out, file->length, lent.used) == 0 && *lent.used == file->length);

@@ -19,7 +19,9 @@ static inline void must_be_refused(struct desk *desk, const struct pamzolit_plan
     struct question fine = {.t = 1, .places = whole->network.links, .room = PAMZOLIT_FILE_MAX};
     struct question faulty = {SIZE_MAX, SIZE_MAX, SIZE_MAX, 0, 0, UINT32_MAX, UINT32_MAX};
     MUST(!sound(&desk->plan));
+    desk->window.count = 0;
     must_refuse_all(desk, &fine, 19);
+    desk->window.count = UINT32_MAX;
     must_refuse_all(desk, &faulty, 19);
     broken++;
 }

@@ -1,6 +1,6 @@
-/* Plans that were written over: 19 from every call exactly if the plan is not sound, else answers from what the plan
- * then holds, and nothing stored but what the header says. With an argument: so many rounds, and not every value of
- * every byte of resort A. */
+/* Plans that were written over, and gates' records with anything in them: 19 from every call exactly if the plan is not
+ * sound, else answers from what plan and record then hold, and nothing stored but what the header says. With an
+ * argument: so many rounds, and not every value of every byte of resort A. */
 #include "answers.h"
 #include "breaks.h"
 #include "fields.h"
@@ -75,6 +75,14 @@ static bool seldom(void)
     return draw(8) == 0;
 }
 
+/* often one that leaves about as much as a window shows, if the lightest edge is on the path */
+static uint32_t random_demand(const struct pamzolit_plan *plan)
+{
+    if (draw(2))
+        return plan->lightest.weight + 120 - draw(1240);
+    return seldom() ? (uint32_t)noise() : up_to(1000000000);
+}
+
 /* arguments that are mostly in order */
 static struct question random_question(const struct pamzolit_plan *plan)
 {
@@ -86,8 +94,7 @@ static struct question random_question(const struct pamzolit_plan *plan)
     q.t = seldom() ? q.s : draw(n + 1);
     q.capacity = seldom() ? (uint32_t)noise() : up_to(1000000);
     q.capacity += seldom();
-    q.demand = seldom() ? (uint32_t)noise() : up_to(1000000000);
-    q.demand += seldom();
+    q.demand = random_demand(plan) + seldom();
     if (seldom())
         q.places = draw(PAMZOLIT_LINKS + 2);
     if (seldom())
@@ -98,6 +105,7 @@ static struct question random_question(const struct pamzolit_plan *plan)
 static void try_desk(void)
 {
     struct question q = random_question(&desk.plan);
+    desk.window = random_window();
     tried[must_answer_all(&desk, &q)]++;
 }
 
@@ -172,12 +180,16 @@ static void keeps_the_shape(void)
     desk.plan.tree.weight[1] = 256000000;
     MUST(called(HEADROOM, &desk, &q) == 0 && desk.headroom.value == 255999999);
     MUST(memcmp(desk.headroom.text, "  25599999.9", 12) == 0);
+    desk.window = (struct pamzolit_window){0, INT32_MIN, 0};
+    MUST(called(READING, &desk, &q) == 0 && desk.window.lowest == 255999999 && desk.window.count == 1);
+    MUST(memcmp(desk.shown.text, "HIGH", 4) == 0);
     /* link 0 to the capacity that it has now: every step is kept, that of node 1 with its value of 8 */
     MUST(called(PREVIEW, &desk, &q) == 0 && desk.pair.weight == 8 && desk.count == 0);
     desk.plan.tree.weight[1] = 0;
-    MUST(called(HEADROOM, &desk, &q) == 19);
+    MUST(called(HEADROOM, &desk, &q) == 19 && called(READING, &desk, &q) == 19);
     desk.plan.lightest = (struct pamzolit_edge){.node = 1};
     MUST(called(HEADROOM, &desk, &q) == 0 && desk.headroom.value == -1);
+    MUST(called(READING, &desk, &q) == 0 && desk.window.lowest == -1 && desk.window.count == 2);
 }
 
 int main(int argc, char **argv)
@@ -197,6 +209,7 @@ int main(int argc, char **argv)
     for (int k = 0; k < 1000 * rounds; k++)
         only_noise(), only_shape();
     must_have_met_all_rows(30);
+    must_have_met_all_looks(30);
     MUST(tried[false] > 10000 * (size_t)rounds && tried[true] > 3000 * (size_t)rounds);
     tried[false] += broken;
     size_t all = tried[false] + tried[true];

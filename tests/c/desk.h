@@ -18,19 +18,23 @@ struct desk {
     uint8_t gap_3[64];
     struct pamzolit_headroom_reply headroom;
     uint8_t gap_4[60];
-    int32_t flow[PAMZOLIT_LINKS + 1];
+    struct pamzolit_window window;
     uint8_t gap_5[60];
+    struct pamzolit_window_reply shown;
+    uint8_t gap_6[64];
+    int32_t flow[PAMZOLIT_LINKS + 1];
+    uint8_t gap_7[60];
     uint8_t file[PAMZOLIT_FILE_MAX + 1];
-    uint8_t gap_6[68];
+    uint8_t gap_8[68];
     size_t used;
-    uint8_t gap_7[64];
+    uint8_t gap_9[64];
     size_t place;
-    uint8_t gap_8[64];
+    uint8_t gap_10[64];
 };
 /* padding would not be safe to compare */
-_Static_assert(sizeof(struct desk) == 3104 + 4 + 32 + 20 + 1028 + 1284 + 8 + 8 + 568, "the desk has padding");
+_Static_assert(sizeof(struct desk) == 3104 + 4 + 32 + 20 + 12 + 8 + 1028 + 1284 + 8 + 8 + 692, "the desk has padding");
 
-enum call { CHANGE, UNDO, PAIR, PREVIEW, HEADROOM, FLOW, WRITE, CALLS };
+enum call { CHANGE, UNDO, PAIR, PREVIEW, HEADROOM, READING, FLOW, WRITE, CALLS };
 
 /* a call's arguments; `places` and `room` are the lengths of the flow's and the file's buffers */
 struct question {
@@ -58,6 +62,7 @@ static inline uint32_t ask(enum call call, struct desk *desk, const struct quest
     case PREVIEW:
         return pamzolit_preview(&desk->plan, q->link, q->capacity, q->s, q->t, &desk->pair, &desk->count);
     case HEADROOM: return pamzolit_headroom(&desk->plan, q->s, q->t, q->demand, &desk->headroom);
+    case READING: return pamzolit_reading(&desk->window, &desk->plan, q->s, q->t, q->demand, &desk->shown);
     case FLOW: return pamzolit_flow(&desk->plan, q->s, q->t, desk->flow, q->places);
     default: return pamzolit_write(&desk->plan, desk->file, q->room, &desk->used);
     }
@@ -75,6 +80,10 @@ static inline void store_refusal(enum call call, struct desk *desk, uint32_t num
         desk->headroom = (struct pamzolit_headroom_reply){.number = number};
         memset(desk->headroom.text, ' ', sizeof desk->headroom.text);
         break;
+    case READING:
+        desk->shown.number = number;
+        memset(desk->shown.text, ' ', sizeof desk->shown.text);
+        break;
     case FLOW: break;
     default: desk->used = 0;
     }
@@ -89,6 +98,7 @@ static inline void store_reply(enum call call, struct desk *desk, const struct d
     case PAIR: desk->pair = behind->pair, MUST(desk->pair.number == 0); break;
     case PREVIEW: desk->pair = behind->pair, desk->count = behind->count, MUST(desk->pair.number == 0); break;
     case HEADROOM: desk->headroom = behind->headroom, MUST(desk->headroom.number == 0); break;
+    case READING: desk->window = behind->window, desk->shown = behind->shown, MUST(desk->shown.number == 0); break;
     case FLOW: memcpy(desk->flow, behind->flow, q->places * sizeof desk->flow[0]); break;
     default:
         MUST(behind->used <= q->room);
@@ -106,6 +116,8 @@ static inline void cover_reply(enum call call, struct desk *desk)
         cover_with_noise(&desk->pair, sizeof desk->pair);
     if (call == HEADROOM)
         cover_with_noise(&desk->headroom, sizeof desk->headroom);
+    if (call == READING)
+        cover_with_noise(&desk->shown, sizeof desk->shown);
     if (call == WRITE)
         cover_with_noise(&desk->used, sizeof desk->used);
 }
@@ -123,6 +135,17 @@ static inline uint32_t called(enum call call, struct desk *desk, const struct qu
         store_reply(call, &want, desk, q);
     MUST(memcmp(&want, desk, sizeof want) == 0);
     return number;
+}
+
+/* a reset of whatever the record's memory holds, which stores three zeros and nothing else */
+static inline void reset_window(struct desk *desk)
+{
+    struct desk want;
+    cover_with_noise(&desk->window, sizeof desk->window);
+    memcpy(&want, desk, sizeof want);
+    pamzolit_reset(&desk->window);
+    want.window = (struct pamzolit_window){0, 0, 0};
+    MUST(memcmp(&want, desk, sizeof want) == 0);
 }
 
 /* an opening into whatever the plan's memory holds; its number */

@@ -1,6 +1,6 @@
-/* Resort A's life as a plan in C's memory: opened, asked, previewed, changed, undone, written, copied, refused. The
- * lines that it prints are compared with life.out, which an independent model made. A flow is not printed, since its
- * choice is free: it is checked to be lawful, and its total is printed. */
+/* Resort A's life as a plan in C's memory: opened, asked, previewed, changed, undone, read by a gate, written, copied,
+ * refused. The lines that it prints are compared with life.out, which an independent model made. A flow is not printed,
+ * since its choice is free: it is checked to be lawful, and its total is printed. */
 #include "blocks.h"
 #include "desk.h"
 #include "files.h"
@@ -151,6 +151,76 @@ static void refuse_calls(void)
     MUST(same_plan(&desk.plan, &first));
 }
 
+/* ---- the gate window */
+
+static void reset(void)
+{
+    reset_window(&desk);
+    printf("reset: ");
+    show_window(&desk.window);
+}
+
+static void read_window(size_t s, size_t t, uint32_t demand)
+{
+    struct question q = {.s = s, .t = t, .demand = demand};
+    uint32_t number = called(READING, &desk, &q);
+    show_question(READING, &q);
+    if (number != PAMZOLIT_ACCEPTED) {
+        printf(": refused %u\n", (unsigned)number);
+    } else {
+        printf(": [%.4s] ", (const char *)desk.shown.text);
+        show_window(&desk.window);
+    }
+}
+
+static void read_windows(size_t s, size_t t, const uint32_t *demands, size_t count)
+{
+    for (size_t i = 0; i < count; i++)
+        read_window(s, t, demands[i]);
+}
+
+/* one list: resets, and readings of a plan that changes in between, refused ones among them */
+static void read_through_changes(void)
+{
+    static const uint32_t some[] = {0, 11, 6, 7, 5}, falling[] = {105, 106, 107, 1000000000, 0};
+    static const uint32_t rising[] = {999997, 999906, 999905, 999006, 999005, 0, UINT32_MAX};
+    desk.plan = first;
+    reset();
+    reset();
+    read_windows(1, 3, some, 5);
+    change(2, 0);
+    read_windows(3, 1, some, 5);
+    read_window(1, 3, 1000000001);
+    undo();
+    read_windows(1, 3, falling, 5);
+    reset();
+    refuse_pairs(READING);
+    change(4, 1000000);
+    read_windows(0, 2, rising, 7);
+    read_window(0, 1, 4);
+    undo();
+    MUST(same_plan(&desk.plan, &first));
+}
+
+/* records that no reset made, some of them at the limit, which a headroom's refusals come before */
+static void read_any_record(void)
+{
+    static const struct pamzolit_window records[] = {
+        {1, INT32_MIN, 0}, {INT32_MIN, INT32_MAX, 0}, {INT32_MAX, INT32_MIN, 1}, {0, INT32_MAX, 1},
+        {3, -6, 999998}, {3, 2, 1000000}, {3, 2, 1000001}, {INT32_MIN, INT32_MAX, UINT32_MAX},
+    };
+    static const uint32_t demands[] = {1000000001, 11, 13, 5};
+    for (size_t i = 0; i < sizeof records / sizeof records[0]; i++) {
+        desk.window = records[i];
+        printf("record: ");
+        show_window(&desk.window);
+        read_window(0, 4, 1000000001);
+        read_window(2, 2, 1000000001);
+        read_windows(1, 3, demands, 4);
+    }
+    MUST(same_plan(&desk.plan, &first));
+}
+
 /* ---- the whole stack */
 
 static struct pamzolit_plan before[PAMZOLIT_CHANGES];
@@ -266,6 +336,8 @@ int main(void)
     change_and_undo(2, 0);
     change_and_undo(4, 1000000);
     refuse_calls();
+    read_through_changes();
+    read_any_record();
     fill_the_stack();
     preview_the_last_change();
     empty_the_stack();

@@ -1,4 +1,4 @@
-/* A plan, a question and a file as lines of text. */
+/* A plan, a gate's record, a question and a file as lines of text. */
 #ifndef SHOW_H
 #define SHOW_H
 
@@ -82,9 +82,15 @@ static inline void show_question(enum call call, const struct question *q)
         printf("preview link %zu to %u, pair %zu %zu", q->link, (unsigned)q->capacity, q->s, q->t);
         break;
     case HEADROOM: printf("headroom %zu %zu, demand %u", q->s, q->t, (unsigned)q->demand); break;
+    case READING: printf("reading %zu %zu, demand %u", q->s, q->t, (unsigned)q->demand); break;
     case FLOW: printf("flow %zu %zu into %zu places", q->s, q->t, q->places); break;
     default: printf("write into %zu bytes", q->room);
     }
+}
+
+static inline void show_window(const struct pamzolit_window *window)
+{
+    printf("last %d, lowest %d, count %u\n", (int)window->last, (int)window->lowest, (unsigned)window->count);
 }
 
 static inline void show_bytes(const uint8_t *bytes, size_t length)

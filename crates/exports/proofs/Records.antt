@@ -12,6 +12,7 @@ use Rattle.plan.specs.declared.HeadroomReply.{HeadroomReply}
 use Rattle.plan.specs.declared.Opening.{Opening}
 use Rattle.plan.specs.declared.Plan.{Plan}
 use Rattle.plan.specs.declared.Written.{Written}
+use Rattle.gate_window.specs.declared.WindowReply.{WindowReply}
 use Rattle.exports.specs.PairReply.{pairReply}
 use Rattle.exports.specs.declared.held.PairReply.{PairReply}
 use Rattle.plan.proofs.Changed as C
@@ -24,6 +25,8 @@ use Rattle.plan.proofs.Plan as P
 use Rattle.plan.proofs.Plan.Laws as P′
 use Rattle.plan.proofs.Written as T
 use Rattle.plan.proofs.Written.Laws as T′
+use Rattle.gate_window.proofs.WindowReply as S
+use Rattle.gate_window.proofs.WindowReply.Laws as S′
 use Rattle.exports.proofs.held.PairReply as A
 use Rattle.exports.proofs.held.PairReply.Laws as A′
 
@@ -35,6 +38,9 @@ headroom-val = LL.val R.the-type R′.the-laws
 
 abbrev pub pair-val : PairReply → Val
 pair-val = LL.val A.the-type A′.the-laws
+
+abbrev pub window-reply-val : WindowReply → Val
+window-reply-val = LL.val S.the-type S′.the-laws
 
 -- the whole definition behind `pair_reply`, as a function of its arguments
 abbrev pub pairReplyOf : Plan → ℕ → ℕ → PairReply
@@ -67,6 +73,9 @@ headroom-number-in u vs is = LL.owed R.the-type R′.the-laws u vs is .0 .1
 
 pub pair-number-in : (u : PairReply) (vs : List Val) → Is A.the-row u vs → u .number < 2 ^ 32
 pair-number-in u vs is = LL.owed A.the-type A′.the-laws u vs is .0 .1
+
+pub window-reply-number-in : (u : WindowReply) (vs : List Val) → Is S.the-row u vs → u .number < 2 ^ 32
+window-reply-number-in u vs is = LL.owed S.the-type S′.the-laws u vs is .0 .1
 
 pub written-number-in : (u : Written) (vs : List Val) → Is T.the-row u vs → u .number < 2 ^ 32
 written-number-in u vs is = LL.owed T.the-type T′.the-laws u vs is .0 .1

@@ -26,8 +26,8 @@ use Rattle.plan.specs.declared.Plan.{Plan}
 use Rattle.plan.specs.declared.PreviewReply.{PreviewReply}
 use Rattle.plan.specs.declared.Written.{Written}
 use Rattle.exports.specs.Made.{Made, pamzolit-change, pamzolit-undo, pamzolit-pair, pamzolit-preview}
-use Rattle.exports.specs.Made.{pamzolit-flow, pamzolit-headroom, pamzolit-write, Opened, Promise, planIn, Held}
-use Rattle.exports.specs.Made.{holding, eventsIn, events}
+use Rattle.exports.specs.Made.{pamzolit-flow, pamzolit-headroom, pamzolit-write, pamzolit-reading, Opened}
+use Rattle.exports.specs.Made.{Promise, planIn, Held, holding, eventsIn, events}
 use Rattle.exports.specs.PairReply.{pairReply, answerIn}
 use Rattle.exports.specs.declared.held.PairReply.{PairReply}
 
@@ -93,7 +93,7 @@ held-preview p link capacity s t count copy changed number reply copy₂ (e, er,
     )
 
 -- ---- each kind of call, by what its function promises: it is that call of a run, which leaves what the memory then
--- holds. Headroom and write are no calls of a run: they leave the plan.
+-- holds. Headroom, write and reading are no calls of a run: they leave the plan.
 pub runs : (p : Plan) (m : Made) → Promise p m → Run p (eventsIn m) × (left p (eventsIn m) ≡ planIn m)
 unfolding left
 runs p (pamzolit-change link capacity number count plan) e = ((e, tt), refl)
@@ -106,6 +106,7 @@ runs p (pamzolit-preview link capacity s t number reply count plan) (e, r, n, sa
 runs p (pamzolit-flow s t before number behind plan) (f, same) = (((refl, f), tt), sym same)
 runs p (pamzolit-headroom s t demand number reply plan) (e, r, same) = (tt, sym same)
 runs p (pamzolit-write before number used behind plan) (e, w, same) = (tt, sym same)
+runs p (pamzolit-reading s t demand before number behind reply plan) (e, w, r, same) = (tt, sym same)
 
 -- ---- so a list of calls is a run, and leaves what the memory holds
 run-on : (es fs : List Event) (p : Plan) → Run p es → Run (left p es) fs → Run p (es ++ fs)

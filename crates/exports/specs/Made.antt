@@ -1,5 +1,6 @@
 -- Calls that a caller made on a plan in its own memory, each with what came back, and what the functions promise of it.
--- These promises are the contracts in src/held.rt: proofs/Contracts.antt shows it of each of them.
+-- These promises are the contracts in src/held.rt and of the reading in src/window.rt: proofs/Contracts.antt shows it
+-- of each of them.
 use Prim.Native.Nat.{ℕ}
 use mathlib.Core.Path.{_≡_}
 use mathlib.Core.List.{List, [], _∷_, _++_}
@@ -10,11 +11,15 @@ use Rattle.history.specs.Machine.{pair, flow, preview, change, undo, ask}
 use Rattle.history.specs.Run.{Event}
 use Rattle.plan.specs.declared.HeadroomReply.{HeadroomReply}
 use Rattle.plan.specs.declared.Plan.{Plan}
+use Rattle.gate_window.specs.Reading.{readingOf}
+use Rattle.gate_window.specs.declared.Window.{Window}
+use Rattle.gate_window.specs.declared.WindowReply.{WindowReply}
 use Rattle.exports.specs.PairReply.{pairReply, answerIn}
 use Rattle.exports.specs.declared.held.PairReply.{PairReply}
 
 -- the function with its arguments; then the number that it returned, and what the caller found behind the call in the
--- memory that it lent: count, reply, buffer, and `plan`, what the plan's own memory holds
+-- memory that it lent: count, reply, buffer, and `plan`, what the plan's own memory holds. A buffer and a gate's record
+-- are `before` the call, and `behind` it.
 pub data Made : Type 0 where
   pamzolit-change : (link capacity : ℕ) (number count : ℕ) (plan : Plan) → Made
   pamzolit-undo : (number count : ℕ) (plan : Plan) → Made
@@ -23,6 +28,8 @@ pub data Made : Type 0 where
   pamzolit-flow : (s t : ℕ) (before : List ℤ) (number : ℕ) (behind : List ℤ) (plan : Plan) → Made
   pamzolit-headroom : (s t demand : ℕ) (number : ℕ) (reply : HeadroomReply) (plan : Plan) → Made
   pamzolit-write : (before : List ℕ) (number used : ℕ) (behind : List ℕ) (plan : Plan) → Made
+  pamzolit-reading : (s t demand : ℕ) (before : Window) (number : ℕ) (behind : Window) (reply : WindowReply)
+      → (plan : Plan) → Made
 
 -- ---- what is promised
 -- of `pamzolit_open`
@@ -49,6 +56,9 @@ Promise p (pamzolit-write before number used behind plan) =
     (record { number = number; length = used } ≡ writeOf p (length before))
     × (behind ≡ writtenTo p before)
     × (plan ≡ p)
+Promise p (pamzolit-reading s t demand before number behind reply plan) =
+    let read = readingOf p before s t demand in
+    (number ≡ read .reply .number) × (behind ≡ read .window) × (reply ≡ read .reply) × (plan ≡ p)
 
 -- ---- what came back
 abbrev pub numberBack : Made → ℕ
@@ -59,6 +69,7 @@ numberBack (pamzolit-preview link capacity s t number reply count plan) = number
 numberBack (pamzolit-flow s t before number behind plan) = number
 numberBack (pamzolit-headroom s t demand number reply plan) = number
 numberBack (pamzolit-write before number used behind plan) = number
+numberBack (pamzolit-reading s t demand before number behind reply plan) = number
 
 abbrev pub planIn : Made → Plan
 planIn (pamzolit-change link capacity number count plan) = plan
@@ -68,6 +79,7 @@ planIn (pamzolit-preview link capacity s t number reply count plan) = plan
 planIn (pamzolit-flow s t before number behind plan) = plan
 planIn (pamzolit-headroom s t demand number reply plan) = plan
 planIn (pamzolit-write before number used behind plan) = plan
+planIn (pamzolit-reading s t demand before number behind reply plan) = plan
 
 -- ---- a list of calls on the same memory, nothing else writing it: each finds what the one before it left
 unfoldable pub Held : Plan → List Made → Type 0
@@ -98,6 +110,7 @@ eventsIn (pamzolit-flow s t before number behind plan) =
     } ∷ []
 eventsIn (pamzolit-headroom s t demand number reply plan) = []
 eventsIn (pamzolit-write before number used behind plan) = []
+eventsIn (pamzolit-reading s t demand before number behind reply plan) = []
 
 unfoldable pub events : List Made → List Event
 events [] = []

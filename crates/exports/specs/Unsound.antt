@@ -21,10 +21,11 @@ use Rattle.plan.specs.declared.Opening.{Opening}
 use Rattle.plan.specs.declared.Plan.{Plan}
 use Rattle.plan.specs.declared.PreviewReply.{PreviewReply}
 use Rattle.plan.specs.declared.Written.{Written}
+use Rattle.gate_window.specs.Numbers.{reading-numbered}
 use Rattle.exports.specs.PairReply.{pairReply}
 use Rattle.exports.specs.Made.{Made, pamzolit-change, pamzolit-undo, pamzolit-pair, pamzolit-preview}
-use Rattle.exports.specs.Made.{pamzolit-flow, pamzolit-headroom, pamzolit-write, Opened, Promise, numberBack}
-use Rattle.exports.specs.Made.{planIn}
+use Rattle.exports.specs.Made.{pamzolit-flow, pamzolit-headroom, pamzolit-write, pamzolit-reading, Opened}
+use Rattle.exports.specs.Made.{Promise, numberBack, planIn}
 use Rattle.exports.specs.declared.held.PairReply.{PairReply}
 
 no-preview : (p : Plan) → sound p ≡ false → (k c s t : ℕ) → previewOf p k c s t ≡ noPreview notSound
@@ -58,6 +59,8 @@ unsound-19 p bad (pamzolit-headroom s t demand number reply plan) (e, r, same) =
     (e ∙ headroom-numbered p s t demand .exactly notSound refl .1 bad, same)
 unsound-19 p bad (pamzolit-write before number used behind plan) (e, w, same) =
     (ap (λ (r : Written). r .number) e ∙ write-numbered p before .exactly notSound refl .1 bad, same)
+unsound-19 p bad (pamzolit-reading s t demand before number behind reply plan) (e, w, r, same) =
+    (e ∙ reading-numbered p before s t demand .exactly notSound refl .1 bad, same)
 
 -- what a preview then stores: zeros beside the number, and the count 0
 pub unsound-preview : (p : Plan) → sound p ≡ false → (link capacity s t number : ℕ) (reply : PairReply) (count : ℕ)

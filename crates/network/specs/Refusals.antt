@@ -66,3 +66,7 @@ bufferTooShort = 18
 
 abbrev pub notSound : ℕ
 notSound = 19
+
+-- ---- a gate's record
+abbrev pub tooManyReadings : ℕ
+tooManyReadings = 20

@@ -29,6 +29,7 @@ pub use refusals::NUMBER_TOO_LONG;
 pub use refusals::SAME_NODE;
 pub use refusals::STACK_FULL;
 pub use refusals::TOO_MANY_LINKS;
+pub use refusals::TOO_MANY_READINGS;
 pub use refusals::ZERO_GROUP;
 ghost use mathlib.Core.Path.{_≡_};
 ghost use Prim.Native.Nat.{_≤_};

@@ -39,3 +39,6 @@ pub const DEMAND_TOO_LARGE: u32 = 17;
 pub const BUFFER_TOO_SHORT: u32 = 18;
 
 pub const NOT_SOUND: u32 = 19;
+
+// a gate's record
+pub const TOO_MANY_READINGS: u32 = 20;

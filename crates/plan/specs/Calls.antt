@@ -151,11 +151,12 @@ pub record Flowed (p : Plan) (s t : ℕ) (before : List ℤ) (number : ℕ) (beh
   pub untouched : number ≢ 0 → behind ≡ before
 
 -- ---- headroom
-abbrev pub headroomRows : Plan → (s t demand : ℕ) → List Row
-headroomRows p s t demand = nodeRows p s t (row (ltb maxDemand demand) demandTooLarge ∷ [])
+-- the checks of a headroom, and those that come after them
+abbrev pub headroomRows : Plan → (s t demand : ℕ) → List Row → List Row
+headroomRows p s t demand later = nodeRows p s t (row (ltb maxDemand demand) demandTooLarge ∷ later)
 
 unfoldable pub headroomNumber : Plan → ℕ → ℕ → ℕ → ℕ
-headroomNumber p s t demand = chain (headroomRows p s t demand)
+headroomNumber p s t demand = chain (headroomRows p s t demand [])
 
 abbrev pub headroomBy : ℤ → HeadroomReply
 headroomBy z = record { number = 0; value = z; text = textOf z }

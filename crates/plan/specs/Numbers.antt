@@ -192,21 +192,23 @@ module _ (p : Plan) (s t : ℕ) (before : List ℤ) (number : ℕ) (behind : Lis
   flow-refused = f .untouched
 
 -- ---- headroom
-abbrev pub headroomTable : (p : Plan) (s t demand : ℕ) → Meaning (headroomRows p s t demand)
-headroomTable p s t demand =
+-- the rows of a headroom, and the table of those behind them
+abbrev pub headroomTable : (p : Plan) (s t demand : ℕ) {rs : List Row} → Meaning rs
+    → Meaning (headroomRows p s t demand rs)
+headroomTable p s t demand later =
     nodeTable p s t
     (means demandTooLarge (maxDemand < demand) (demand ≤ maxDemand) (above maxDemand demand)
-    (not-above maxDemand demand) end)
+    (not-above maxDemand demand) later)
 
 module _ (p : Plan) (s t demand : ℕ) where
-  headroom-is : headroomOf p s t demand .number ≡ headroomNumber p s t demand
+  pub headroom-is : headroomOf p s t demand .number ≡ headroomNumber p s t demand
   unfolding headroomOf
   headroom-is =
       number-kept (λ (r : HeadroomReply). r .number) (headroomNumber p s t demand) _ noHeadroom refl (λ n. refl)
 
-  pub headroom-numbered : Numbered (headroomTable p s t demand) (headroomOf p s t demand .number)
+  pub headroom-numbered : Numbered (headroomTable p s t demand end) (headroomOf p s t demand .number)
   unfolding headroomNumber positive
-  headroom-numbered = numbered (headroomTable p s t demand) headroom-is refl
+  headroom-numbered = numbered (headroomTable p s t demand end) headroom-is refl
 
   -- refused: 0, with twelve spaces
   pub headroom-refused : headroomOf p s t demand .number ≢ 0

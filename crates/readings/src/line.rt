@@ -51,16 +51,22 @@ pub fn byte_at(line: &[u8], i: usize) -> u8 {
     0
 }
 
-// A number with one digit more, where that is below 4,000,000,000 and so fits; other bytes leave it.
+// A number with one digit more, where that fits.
+fn longer(number: u32, digit: u8) -> u32 {
+    let whole = 10 * number as u64 + digit as u64;
+    if whole > 4_294_967_295 {
+        return number;
+    }
+    whole as u32
+}
+
+// A number with one digit more; other bytes leave it.
 fn with_digit(number: u32, x: u8, counts: bool) -> u32 {
     if !counts {
         return number;
     }
-    if number > 399_999_999 {
-        return number;
-    }
     match x {
-        b'0'..=b'9' => 10 * number + (x - b'0') as u32,
+        b'0'..=b'9' => longer(number, x - b'0'),
         _ => number,
     }
 }
@@ -76,7 +82,7 @@ fn with_space(spaces: usize, x: u8) -> usize {
 }
 
 // The decimal number behind a place and so many spaces.
-fn number(line: &[u8], from: usize, skipped: usize) -> u32 {
+pub fn number(line: &[u8], from: usize, skipped: usize) -> u32 {
     let mut number = 0;
     let mut spaces = 0;
     for i in from..line.len() {
@@ -85,6 +91,18 @@ fn number(line: &[u8], from: usize, skipped: usize) -> u32 {
         spaces = with_space(spaces, x);
     }
     number
+}
+
+// The decimal number at a place, below zero where a minus stands before it.
+pub fn signed(line: &[u8], place: usize) -> i32 {
+    let size = number(line, place, 0);
+    if byte_at(line, place) != b'-' {
+        return (size % 2_147_483_648) as i32;
+    }
+    if size == 0 {
+        return 0;
+    }
+    !(((size - 1) % 2_147_483_648) as i32)
 }
 
 pub fn numbers(line: &[u8], from: usize) -> Given {

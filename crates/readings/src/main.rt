@@ -7,6 +7,7 @@ mod bend; // the command that sets one number of the plan by hand
 mod changes; // commands that change the plan: change, undo, repeat, drain
 mod files; // commands that open a file: open, longest, many
 mod flows; // the command flow
+mod gate; // the command gate, a reading of a gate's record
 mod line; // the parts of a line
 mod print; // words, numbers and bytes
 mod show; // commands that show the plan: tree, edge, steps, network
@@ -16,7 +17,7 @@ use line::Given;
 use plan::Plan;
 
 // Does what a command that leaves the plan as it is says.
-fn tell(plan: Plan, command: u8, given: Given) {
+fn tell(plan: Plan, command: u8, given: Given, line: &[u8], arguments: usize) {
     match command {
         b't' => show::tree(plan),
         b'e' => show::edge(plan),
@@ -26,6 +27,7 @@ fn tell(plan: Plan, command: u8, given: Given) {
         b'v' => answers::preview(plan, given),
         b'h' => answers::headroom(plan, given),
         b'f' => flows::flow(plan, given),
+        b'g' => gate::reading(plan, given, line, arguments),
         b'w' => writing::write(plan, given),
         _ => print::put(b" no command"),
     }
@@ -47,7 +49,7 @@ fn obey(plan: Plan, line: &[u8], place: usize) -> Plan {
         b'd' => changes::drain(plan),
         b'b' => bend::bend(plan, line::byte_at(line, arguments), given),
         _ => {
-            tell(plan, command, given);
+            tell(plan, command, given, line, arguments);
             plan
         }
     }

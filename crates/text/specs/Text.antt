@@ -35,6 +35,10 @@ digitsOf (suc left) n = let front = digitsOf left (n / 10) in pick (ltb n 10) 1 
 abbrev pub textWidth : ℕ
 textWidth = 1 + digitsOf 20 (2 ^ 31 / 10) + 2
 
--- a number of tenths
+-- a number of tenths: the sign, the whole megabits, a point, one digit
+abbrev pub numeral : ℤ → List ℕ
+numeral z = signOf z ++ (decimal (natAbs z / 10) ++ (46 ∷ (48 + natAbs z % 10) ∷ []))
+
+-- the text of a headroom
 unfoldable pub textOf : ℤ → List ℕ
-textOf z = rightAligned textWidth (signOf z ++ (decimal (natAbs z / 10) ++ (46 ∷ (48 + natAbs z % 10) ∷ [])))
+textOf z = rightAligned textWidth (numeral z)

@@ -11,7 +11,7 @@ struct Text {
     minus: bool,
 }
 
-fn digit(x: u32) -> u8 {
+pub fn digit(x: u32) -> u8 {
     48 + (x % 10) as u8
 }
 

@@ -16,6 +16,7 @@ mod same; // equal records
 mod sides; // a trial of every side
 mod tally; // counts
 mod trees; // trees and changes
+mod windows; // a gate's readings
 
 fn main() {
     tally::print(b"flow", flows::try_flows(1000));
@@ -24,4 +25,7 @@ fn main() {
     tally::print(b"plan", plans);
     tally::print_refusals(b"refusals", plans.numbers);
     tally::print_refusals(b"refusals of previews", plans.preview_numbers);
+    let windows = windows::try_windows(400);
+    tally::print(b"window", windows);
+    tally::print_refusals(b"refusals of readings", windows.numbers);
 }

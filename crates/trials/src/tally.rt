@@ -9,6 +9,8 @@ pub struct Tally {
     pub calls: u64,
     pub previews: u64,
     pub refused_previews: u64,
+    pub readings: u64,
+    pub refused_readings: u64,
     pub pairs: u64,
     pub wrong: u64,
     // bit e for each number e that a call was answered with, and the same of previews
@@ -24,6 +26,8 @@ pub fn nothing() -> Tally {
         calls: 0,
         previews: 0,
         refused_previews: 0,
+        readings: 0,
+        refused_readings: 0,
         pairs: 0,
         wrong: 0,
         numbers: 0,
@@ -77,6 +81,18 @@ pub fn count_preview(t: Tally, number: u32, right: bool) -> Tally {
     next
 }
 
+// The same of a gate's readings, which have a tally of their own.
+pub fn count_reading(t: Tally, number: u32, right: bool) -> Tally {
+    let mut next = judged(t, right);
+    next.numbers = t.numbers | (1u32 << (number % 32));
+    if number == 0 {
+        next.readings = wrapping_add_u64(t.readings, 1);
+    } else {
+        next.refused_readings = wrapping_add_u64(t.refused_readings, 1);
+    }
+    next
+}
+
 pub fn count_pair(t: Tally, right: bool) -> Tally {
     let mut next = judged(t, right);
     next.pairs = wrapping_add_u64(t.pairs, 1);
@@ -101,6 +117,8 @@ pub fn print(name: &[u8], t: Tally) {
     print_count(t.calls, b" calls");
     print_count(t.previews, b" previews");
     print_count(t.refused_previews, b" refused previews");
+    print_count(t.readings, b" readings");
+    print_count(t.refused_readings, b" refused readings");
     print_count(t.pairs, b" pairs");
     io::write_all(STDOUT_FILENO, b" ");
     io::print_decimal(STDOUT_FILENO, t.wrong);

@@ -14,7 +14,7 @@ pub enum Call {
 }
 
 /// A number below `count` most of the time, else one that is not, far away or with the low bits of one that is.
-fn index(random: &mut Random, count: usize) -> usize {
+pub fn index(random: &mut Random, count: usize) -> usize {
     if count > 0 && !random.chance(5) {
         return random.below(count);
     }

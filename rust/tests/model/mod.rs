@@ -3,6 +3,8 @@
 //! shares no code with the library.
 #![allow(dead_code)] // each test uses its part
 
+pub mod window;
+
 pub const SMALL: usize = 9;
 
 #[derive(Clone, Debug, PartialEq, Eq)]

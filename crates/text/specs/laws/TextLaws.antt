@@ -102,6 +102,10 @@ spaces-more : (k : ℕ) → replicate k space ++ (space ∷ []) ≡ replicate (s
 spaces-more zero = refl
 spaces-more (suc k) = ap (λ xs. space ∷ xs) (spaces-more k)
 
+spaces-on : (k j : ℕ) → replicate (k + j) space ≡ replicate k space ++ replicate j space
+spaces-on zero j = let e : 0 + j ≡ j = omega arith in rw e
+spaces-on (suc k) j = let e : suc k + j ≡ suc (k + j) = omega arith in rw e (ap (λ xs. space ∷ xs) (spaces-on k j))
+
 no-more : (xs : List ℕ) → xs ++ [] ≡ xs
 no-more [] = refl
 no-more (x ∷ xs) = ap (λ ys. x ∷ ys) (no-more xs)
@@ -114,6 +118,12 @@ aligned-more k xs ys =
 
 aligned-one : (k : ℕ) (xs : List ℕ) (d : ℕ) → rightAligned (suc k) (xs ++ (d ∷ [])) ≡ rightAligned k xs ++ (d ∷ [])
 aligned-one k xs d = let e : suc k ≡ k + 1 = omega arith in ap (λ n. rightAligned n (xs ++ (d ∷ []))) e ∙ aligned-more k xs (d ∷ [])
+
+-- what fits into w places has spaces before it in more
+pub aligned-wider : (k w : ℕ) (xs : List ℕ) → length xs ≤ w → rightAligned (k + w) xs ≡ replicate k space ++ rightAligned w xs
+aligned-wider k w xs l =
+    let e : (k + w) - length xs ≡ k + (w - length xs) = omega arith in
+    rw e (ap (λ ys. ys ++ xs) (spaces-on k (w - length xs)) ∙ append-assoc (replicate k space) (replicate (w - length xs) space) xs)
 
 leading-zero : (k : ℕ) → leading k 0 false ≡ replicate k space
 unfolding leading markOf

@@ -1,0 +1,2 @@
+-- what the proofs of src/lib.rt share
+pub mod Records

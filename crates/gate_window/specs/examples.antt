@@ -1,0 +1,3 @@
+-- Worked examples, by evaluation.
+pub mod Evening
+pub mod Windows
