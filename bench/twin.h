@@ -279,15 +279,16 @@ template <int W, bool Counting = false> struct Twin {
         return sent;
     }
 
-    static uint32_t send_all(const To &to, const Table &table, Hints &hints, Residual &residual, size_t s, size_t t)
+    static uint32_t send_all(const To &to, const Table &table, Hints &hints, Residual &residual, size_t s, size_t t,
+                             uint32_t total)
     {
-        uint32_t total = 0;
+        uint32_t raised = total;
         for (size_t k = 0; k < MAX_NODES; k++) {
             size_t level = sweep(hints, s, t);
-            if (level == 0) return total;
-            total += send(to, table, hints, residual, t, s, level - 1, single<W>(s), UNLIMITED);
+            if (level == 0) return raised;
+            raised += send(to, table, hints, residual, t, s, level - 1, single<W>(s), UNLIMITED);
         }
-        return total;
+        return raised;
     }
 
     // ---- crates/max_flow: augment
@@ -307,7 +308,7 @@ template <int W, bool Counting = false> struct Twin {
         memcpy(on.hints, of.start, RING * sizeof(Set));
         uint32_t total = 0;
         for (;;) {
-            total += send_all(of.to, of.table, on.hints, on.residual, s, t);
+            total = send_all(of.to, of.table, on.hints, on.residual, s, t, total);
             search(of.first, of.next, of.to, on.residual, s, t, on.tree);
             if (!on.tree.reached.contains(t)) return {on.tree.reached, total};
             if (Counting) counts.found++;

@@ -15,15 +15,16 @@ use network::MAX_NODES;
 use node_set::contains;
 ghost use lib.ListN.{length};
 ghost use mathlib.Core.Path.{_≡_};
-ghost use Prim.Native.Nat.{ℕ, _≤_};
+ghost use Prim.Native.Nat.{ℕ, _-_, _≤_};
+ghost use Rattle.base.specs.Basics.{at};
 ghost use Rattle.max_flow.specs.code.Augment.{Augmented};
-ghost use Rattle.max_flow.specs.code.Push.{Sending, Sent};
-ghost use Rattle.max_flow.specs.code.Residuals.{fullResidual};
+ghost use Rattle.max_flow.specs.code.Push.{Sending};
+ghost use Rattle.max_flow.specs.code.Residuals.{fullResidual, Sent};
 ghost use Rattle.max_flow.specs.code.Search.{Ready};
 ghost use Rattle.network.specs.declared.Network.{Network};
 
-// d is sent from the first node of the tree to the one reached last, link by link: what that leaves of the residual
-// capacities.
+// One improvement: d is sent from the first node of the tree to the one reached last, link by link. What that leaves of
+// the residual capacities holds a flow between the two if they did, and its total is d more.
 fn push(
     tree: SearchTree,
     d: u32,
@@ -31,7 +32,9 @@ fn push(
     residual: [[u32; 2]; MAX_LINKS],
 ) -> [[u32; 2]; MAX_LINKS]
     requires { ⌜ ((net : Network) × (s : ℕ) × Sending net s residual tree d) ⌝ }
-    ensures { λ r. ⌜ ((net : Network) (s : ℕ) → Sending net s residual tree d → Sent net s residual tree d r) ⌝ }
+    ensures { λ r. ⌜ ((net : Network) (s : ℕ)
+        → Sending net s residual tree d
+        → Sent net s (at (tree .node) (tree .count - 1)) d residual r) ⌝ }
 {
     let mut left = residual;
     let mut i = tree.count - 1;
@@ -47,9 +50,11 @@ fn push(
     left
 }
 
-// Flow is sent until no search reaches t. What was reached then is the least minimum cut, and what each link carries is
-// written to `out`, as far as that has places. The table and the hints to start with are hints. The network whose arcs
-// and full residual capacities these are is named in the contract, and not handed over.
+// Flow is sent until no search reaches t. `total` is carried along and raised by each improvement: at every turn it is
+// what leaves s less what enters s, of the flow that `residual` holds (`Flowing`). What was reached at the end is the
+// least minimum cut, and what each link carries is written to `out`, as far as that has places. The table and the hints
+// to start with are hints. The network whose arcs and full residual capacities these are is named in the contract, and
+// not handed over.
 pub fn augment(
     full: &[[u32; 2]; MAX_LINKS],
     first: &[u16; MAX_NODES],
@@ -74,7 +79,7 @@ pub fn augment(
     let mut hints = *start;
     let mut total: u32 = 0;
     loop {
-        total = total + send_all(to, table, &mut hints, &mut residual, s, t);
+        total = send_all(to, table, &mut hints, &mut residual, s, t, total);
         let tree = search(first, next, to, residual, s, t);
         if !contains(tree.reached, t) {
             write_flow(full, &residual, out);

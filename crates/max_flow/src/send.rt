@@ -19,7 +19,7 @@ use node_set::contains;
 use node_set::lowest;
 use node_set::single;
 ghost use mathlib.Core.Path.{_≡_};
-ghost use Prim.Native.Nat.{ℕ, _+_, _<_};
+ghost use Prim.Native.Nat.{_<_, _≤_};
 ghost use Rattle.max_flow.specs.code.Residuals.{Flowing};
 ghost use Rattle.max_flow.specs.LeastCut.{Endpoints};
 ghost use Rattle.max_flow.specs.code.Send.{otherWay, Consistent, Way, Sends};
@@ -169,7 +169,8 @@ fn send(
     sent
 }
 
-// Flow is sent from s to t in phases, as long as the hints find a way; how much that is.
+// Flow is sent from s to t in phases, as long as the hints find a way. `total` is that of the flow which `residual`
+// holds; each phase raises it by what it sends, and the result is that of the flow then.
 pub fn send_all(
     to: &[u8; MAX_ARCS],
     table: &[u16; TABLE],
@@ -177,26 +178,27 @@ pub fn send_all(
     residual: &mut [[u32; 2]; MAX_LINKS],
     s: usize,
     t: usize,
+    total: u32,
 ) -> u32
     requires { ⌜ ((net : Network)
-        × (v : ℕ)
         × Endpoints net s t
         × Consistent net (now to) (now residual)
-        × Flowing net s t v (now residual)) ⌝ }
-    ensures { λ r. ⌜ ((net : Network) (v : ℕ)
+        × Flowing net s t total (now residual)) ⌝ }
+    ensures { λ r. ⌜ total ≤ r ⌝ }
+    ensures { λ r. ⌜ ((net : Network)
         → Consistent net (now (to .entry)) (now (residual .entry))
-        → Flowing net s t v (now (residual .entry))
-        → Flowing net s t (v + r) (now (residual .exit))) ⌝ }
+        → Flowing net s t total (now (residual .entry))
+        → Flowing net s t r (now (residual .exit))) ⌝ }
 {
-    let mut total: u32 = 0;
+    let mut raised = total;
     for k in 0..MAX_NODES {
         let level = sweep(hints, s, t);
         if level == 0 {
-            return total;
+            return raised;
         }
         let on = single(s);
         let d = send(to, table, hints, residual, t, s, level - 1, on, UNLIMITED);
-        total = total + d;
+        raised = raised + d;
     }
-    total
+    raised
 }

@@ -2,33 +2,29 @@
 use mathlib.Core.Path.{_≡_, refl, sym, ap, subst, _∙_}
 use mathlib.Core.Logic.{_≢_}
 use mathlib.Core.Bool.{Bool, true, false, not}
-use Prim.Native.Nat.{ℕ, _+_, _*_, _≤_, _<_}
+use Prim.Native.Nat.{ℕ, _+_, _≤_, _<_}
 use native.Mathlib.Omega.{arith}
 use native.Mathlib.Decide.{ℕ-discrete}
 use lib.Dec.{eqb}
-use lib.IntN.{ℤ, pos, natAbs, _-ℤ_}
+use lib.IntN.{ℤ, pos}
 use lib.Signed.{_≤ℤ_}
 use borrow.Author.Tests.{eq-eqb, ne-eqb}
-use Rattle.base.specs.laws.Bools.{bool1}
 use Rattle.base.specs.laws.SumLaws.{sum-single}
 use Rattle.base.specs.Sum.{sum}
 use Rattle.min_cut.specs.Cut.{Net, Side, cutValue, complement, Separates, MinCut, Within}
 use Rattle.min_cut.specs.laws.CutLaws.{cutValue-complement}
-use Rattle.min_cut.specs.code.Residual.{when, ResidualFlow}
+use Rattle.min_cut.specs.code.Residual.{when, ResidualFlow, when-none}
 use Rattle.min_cut.specs.Lawful.{outflow, Lawful, total, MaximumFlow}
-use Rattle.base.specs.laws.IntParts.{above, under, size-parts, one-part, same-parts, le-parts}
-use Rattle.min_cut.specs.laws.OutflowLaws.{only, outflow-only, outflow-side, sent-le, carries, sent-residual}
+use Rattle.base.specs.laws.IntParts.{above, under, same-parts, le-parts}
+use Rattle.min_cut.specs.laws.OutflowLaws.{only, outflow-side, sent-le}
+use Rattle.min_cut.specs.laws.LawfulLaws.{InResidual, residual-within, residual-node}
 
 -- a flow of v in residual form, whose link k carries c k - p k, is lawful and has the total v
 module _ (G : Net) (s t v : ℕ) (d : s ≢ t) (p q : ℕ → ℕ) (r : ResidualFlow G s t v p q) (f : ℕ → ℤ)
-    (both : (k : ℕ) → k < G .m → p k + q k ≡ 2 * G .c k)
-    (is : (k : ℕ) → k < G .m → f k ≡ pos (G .c k) -ℤ pos (p k)) where
-  fits : (k : ℕ) → k < G .m → natAbs (f k) ≤ G .c k
-  fits k l = omega (arith, size-parts (f k), one-part (f k), carries (G .c k) (p k) (f k) (is k l), both k l)
-
+    (h : InResidual G p q f) where
   -- at the side of one node the invariant is conservation there
   node : (x : ℕ) → above (outflow G f x (G .m)) + when (eqb t x) v ≡ under (outflow G f x (G .m)) + when (eqb s x) v
-  node x = omega (arith, outflow-only G f x, sent-residual G p q f both is (only x), r (only x))
+  node x = omega (arith, residual-node G p q f h x, r (only x))
 
   kept : (x : ℕ) → x ≢ s → x ≢ t → outflow G f x (G .m) ≡ pos 0
   kept x ns nt =
@@ -38,7 +34,7 @@ module _ (G : Net) (s t v : ℕ) (d : s ≢ t) (p q : ℕ → ℕ) (r : Residual
       ))
 
   pub residual-lawful : (n : ℕ) → Lawful G n s t f
-  residual-lawful n = record { within = fits; conserved = λ x l. kept x }
+  residual-lawful n = record { within = residual-within G p q f h; conserved = λ x l. kept x }
 
   pub residual-total : total G f s ≡ pos v
   unfolding total
@@ -58,7 +54,7 @@ module _ (G : Net) (n s t : ℕ) (w : Within G n) (sl : s < n) (f : ℕ → ℤ)
     where
       go : (x : ℕ) → x < n → x ≢ s → Dec (x ≡ t) → when (X x) (part (outflow G f x (G .m))) ≡ 0
       go x l ns (yes e) = rw (e, o)
-      go x l ns (no nt) = rw (h .conserved x l ns nt, z) (bool1 (λ b. when b 0 ≡ 0) (refl, refl) (X x))
+      go x l ns (no nt) = rw (h .conserved x l ns nt, z) (when-none (X x))
 
   bounded : above (total G f s) ≤ under (total G f s) + cutValue G X
   bounded = omega (arith, only-s above refl, only-s under refl, outflow-side G f X n w, sent-le G f (h .within) X)

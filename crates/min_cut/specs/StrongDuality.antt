@@ -13,6 +13,7 @@ use Rattle.min_cut.specs.Cut.{Net, Side, cutValue, MinCut, Within}
 use Rattle.min_cut.specs.code.Residual.{Closed, ResidualFlow, start, more, weak, full}
 use Rattle.min_cut.specs.Lawful.{Lawful, total, MaximumFlow}
 use Rattle.min_cut.specs.laws.OutflowLaws.{only}
+use Rattle.min_cut.specs.laws.LawfulLaws.{InResidual}
 use Rattle.min_cut.specs.MaxFlow.{residual-lawful, residual-total, weak-duality-value, tight-maximum}
 use Rattle.min_cut.specs.laws.Augment as Augment
 use Rattle.min_cut.specs.laws.Augment.{Searched, searched}
@@ -64,10 +65,11 @@ module _ (G : Net) (n s t : ℕ) (w : Within G n) (sl : s < n) (tl : t < n) (d :
   max-flow-min-cut X x =
       let z : Saturated G s t = saturated G n s t w tl d in
       let f : ℕ → ℤ = λ k. pos (G .c k) -ℤ pos (z .p k) in
+      let held : InResidual G (z .p) (z .q) f = record { both = λ k l. z .both k; is = λ k l. refl } in
       let h : Lawful G n s t f =
-      residual-lawful G s t (z .v) d (z .p) (z .q) (z .flow) f (λ k l. z .both k) (λ k l. refl) n in
+      residual-lawful G s t (z .v) d (z .p) (z .q) (z .flow) f held n in
       let e : total G f s ≡ pos (z .v) =
-      residual-total G s t (z .v) d (z .p) (z .q) (z .flow) f (λ k l. z .both k) (λ k l. refl) in
+      residual-total G s t (z .v) d (z .p) (z .q) (z .flow) f held in
       let same : z .v ≡ cutValue G X = omega (
         arith,
         full G s t (z .v) (z .p) (z .q) (z .flow) (z .R) (z .inside) (z .outside) (z .closed),

@@ -1,6 +1,7 @@
 -- Lemmas, for the proofs. Nothing here has to be believed.
 pub mod CutLaws
 pub mod OutflowLaws
+pub mod LawfulLaws
 pub mod Augment
 pub mod Uncross
 pub mod GusfieldUncross

@@ -1,5 +1,5 @@
 -- What turns a fact of each term into one of the sums, and sums of sums.
-use mathlib.Core.Path.{_≡_, refl, sym}
+use mathlib.Core.Path.{_≡_, refl, sym, _∙_}
 use mathlib.Core.Logic.{_≢_}
 use Prim.Native.Nat.{ℕ, zero, suc, _+_, _≤_, _<_, _*_}
 use native.Mathlib.Omega.{arith}
@@ -8,6 +8,7 @@ use Rattle.base.specs.Sum.{sum}
 use native.Mathlib.Nat.{suc-mul}
 use mathlib.Core.Bool.{Bool, false}
 use Rattle.base.specs.laws.Bools.{bool1}
+use Rattle.base.specs.laws.Put.{put, put-same, put-other}
 use Rattle.base.specs.Word.{bit}
 
 pub sum-ext : (m : ℕ) (f g : ℕ → ℕ) → ((k : ℕ) → k < m → f k ≡ g k) → sum m f ≡ sum m g
@@ -71,6 +72,21 @@ sum-single (suc m) f k l h = go (ℕ-discrete k m) (λ l. sum-single m f k l (λ
     go : Dec (k ≡ m) → (k < m → sum m f ≡ f k) → sum m f + f m ≡ f k
     go (yes e) ih = rw e (omega (arith, sum-zero m f (λ i il. h i (omega arith) (omega arith))))
     go (no n) ih = omega (arith, ih (omega arith), h m (omega arith) (λ e. n (sym e)))
+
+-- but for two
+pub sum-two : (m : ℕ) (f : ℕ → ℕ) (j k : ℕ) → j < m → k < m → j ≢ k → ((i : ℕ) → i < m → i ≢ j → i ≢ k → f i ≡ 0) → sum m f ≡ f j + f k
+sum-two m f j k jl kl d h =
+    omega (
+      arith,
+      sum-at m f (put f k 0) k kl (λ i n. sym (put-other f k 0 i n)),
+      put-same f k 0,
+      sum-single m (put f k 0) j jl (λ i l n. go i l n (ℕ-discrete i k)),
+      put-other f k 0 j d,
+    )
+  where
+    go : (i : ℕ) → i < m → i ≢ j → Dec (i ≡ k) → put f k 0 i ≡ 0
+    go i l n (yes e) = rw e (put-same f k 0)
+    go i l n (no nk) = put-other f k 0 i nk ∙ h i l n nk
 
 pub sum-most : (m c : ℕ) (f : ℕ → ℕ) → ((k : ℕ) → k < m → f k ≤ c) → sum m f ≤ m * c
 unfolding sum

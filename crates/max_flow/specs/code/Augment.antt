@@ -1,6 +1,5 @@
--- Augmenting: the residual capacities hold a flow from s to t all along, which grows until no search reaches t. What
--- was reached then is the
--- least minimum cut, and the flow's total is its value.
+-- Augmenting: the residual capacities hold a flow from s to t all along, whose total is carried along and grows until
+-- no search reaches t. What was reached then is the least minimum cut, and the total is its value.
 use mathlib.Core.Path.{_≡_, refl, sym, ap, ap₂, _∙_}
 use mathlib.Core.Bool.{true, false}
 use mathlib.Core.List.{List}
@@ -11,7 +10,8 @@ use lib.IntN.{ℤ}
 use lib.ListN.{length}
 use borrow.Author.Tests.{eq-eqb, ne-eqb}
 use Rattle.base.specs.Word.{holds}
-use Rattle.min_cut.specs.code.Residual.{more, weak, full}
+use Rattle.min_cut.specs.MaxFlow.{weak-duality-value}
+use Rattle.min_cut.specs.code.Residual.{full}
 use Rattle.min_cut.specs.code.Arcs.{reached-least, shut-closed}
 use Rattle.base.specs.Basics.{at}
 use Rattle.network.specs.Limits.{maxNodes, maxValue}
@@ -19,11 +19,12 @@ use Rattle.network.specs.Network.{graph, leastSide, minCutValue}
 use Rattle.network.specs.laws.NetworkLaws.{nodes-le, ends-within, value-le}
 use Rattle.network.specs.declared.Network.{Network}
 use Rattle.max_flow.specs.LeastCut.{Endpoints, leastCutOf}
-use Rattle.max_flow.specs.code.Residuals.{ahead, back, fullResidual, Flowing}
-use Rattle.max_flow.specs.laws.ResidualLaws.{full-balanced, full-flow}
+use Rattle.max_flow.specs.GrowingFlow.{ahead, back, flowIn}
+use Rattle.max_flow.specs.code.Residuals.{fullResidual, Flowing, Sent}
+use Rattle.max_flow.specs.laws.GrowthLaws.{flow-raised, residual-form}
 use Rattle.max_flow.specs.code.Search.{Searched}
 use Rattle.max_flow.specs.laws.SearchLaws.{contained, place-lt}
-use Rattle.max_flow.specs.code.Push.{Sending, Sent}
+use Rattle.max_flow.specs.code.Push.{Sending}
 use Rattle.max_flow.specs.LargestFlow.{LargestFlow}
 use Rattle.max_flow.specs.code.LinkFlows.{linkFlows, largest}
 use Rattle.max_flow.specs.declared.search.SearchTree.{SearchTree}
@@ -41,16 +42,13 @@ pub record Augmented (net : Network) (s t : ℕ) (cut : Cut) (f f' : List ℤ) :
   pub flow : length f ≡ net .links → LargestFlow net s t f'
 
 module _ {net : Network} {s t : ℕ} (a : Endpoints net s t) where
-  pub flowing-start : (r : List (List ℕ)) → r ≡ fullResidual net → Flowing net s t 0 r
-  flowing-start r e = rw e (record { balanced = full-balanced net (a .fits); flow = full-flow net (a .fits) s t })
-
   -- by the side of s alone
   pub flow-le : {v : ℕ} {r : List (List ℕ)} → Flowing net s t v r → v ≤ maxValue
   flow-le {v} {r} f =
       omega (
         arith,
-        weak (graph net) s t v (ahead r) (back r) (f .flow) (λ i. eqb i s) (eq-eqb s s refl)
-            (ne-eqb t s (λ e. a .apart (sym e))),
+        weak-duality-value (graph net) (net .nodes) s t (ends-within net (a .fits)) (a .source) (flowIn net r)
+            (f .flow .lawful) (λ i. eqb i s) (eq-eqb s s refl) (ne-eqb t s (λ e. a .apart (sym e))) v (f .flow .total),
         value-le net (a .fits) (λ i. eqb i s),
       )
 
@@ -65,26 +63,19 @@ module _ {net : Network} {s t : ℕ} (a : Endpoints net s t) where
     pub last-lt : (0 < w .count) × (w .count - 1 < maxNodes)
     last-lt = (o .tree .some, place-lt (o .tree) (a .fits) (w .count - 1) (omega (arith, o .tree .some)))
 
-    pub sending : Sending net s r w (at (w .bottleneck) (w .count - 1))
-    sending = record { fits = a .fits; balanced = f .balanced; tree = o .tree; amount = omega arith }
+    pub sending : {d : ℕ} → d ≤ most → Sending net s r w d
+    sending l = record { fits = a .fits; balanced = f .balanced; tree = o .tree; amount = l }
 
     -- t is reached
-    pub grows : {r' : List (List ℕ)} → holds (w .reached) t ≡ true → Sent net s r w most r' → Growth net s t v most r'
+    pub grows : {r' : List (List ℕ)} → holds (w .reached) t ≡ true
+        → Sent net s (at (w .node) (w .count - 1)) most r r' → Growth net s t v most r'
     grows {r'} q p =
+        let larger : Flowing net s t (v + most) r' = flow-raised (a .apart) f (rw (o .hit q) at p) in
         record {
           flowing = larger;
           most = flow-le larger;
           some = o .tree .flows (w .count - 1) (omega (arith, o .tree .some));
         }
-      where
-        larger : Flowing net s t (v + most) r'
-        larger =
-            record {
-              balanced = p .balanced;
-              flow =
-                  more (graph net) s t v most (ahead r) (back r) (ahead r') (back r') (f .flow)
-                  (rw (o .hit q) at (p .pushed));
-            }
 
     -- t is not reached
     module _ (q : holds (w .reached) t ≡ false) where
@@ -94,13 +85,13 @@ module _ {net : Network} {s t : ℕ} (a : Endpoints net s t) where
       side-least : leastSide net s t ≡ w .reached
       side-least =
           reached-least (net .nodes) (graph net) s t v (ahead r) (back r) (w .reached) (ends-within net (a .fits))
-          (a .source) (a .sink) (a .apart) (f .flow)
+          (a .source) (a .sink) (a .apart) (residual-form a f)
           (o .tree .under) inside q (o .miss q) (contained (o .tree))
 
       value-least : minCutValue net s t ≡ v
       value-least =
           rw side-least
-          (full (graph net) s t v (ahead r) (back r) (f .flow) (holds (w .reached)) inside q
+          (full (graph net) s t v (ahead r) (back r) (residual-form a f) (holds (w .reached)) inside q
           (shut-closed (graph net) (ahead r) (back r) (holds (w .reached)) (o .miss q)))
 
       pub at-end : {full : List (List ℕ)} {g g' : List ℤ} → full ≡ fullResidual net → g' ≡ linkFlows full r g

@@ -9,7 +9,7 @@ use native.Mathlib.Decide.{ℕ-discrete}
 use lib.IntN.{ℤ, pos, _-ℤ_}
 use lib.ListN.{set, length, length-set}
 use lib.Seq.{getD-set-same, getD-set-other}
-use Rattle.min_cut.specs.MaxFlow.{residual-lawful, residual-total}
+use Rattle.min_cut.specs.laws.LawfulLaws.{lawful-same, total-same}
 use Rattle.base.specs.Basics.{at}
 use Rattle.network.specs.Limits.{maxLinks, maxCapacity}
 use Rattle.network.specs.Network.{graph, minCutValue, flowAt}
@@ -17,7 +17,8 @@ use Rattle.network.specs.laws.NetworkLaws.{links-le, capacity-le}
 use Rattle.network.specs.declared.Network.{Network}
 use Rattle.max_flow.specs.LeastCut.{Endpoints}
 use Rattle.max_flow.specs.LargestFlow.{LargestFlow}
-use Rattle.max_flow.specs.code.Residuals.{ahead, back, fullResidual, Flowing}
+use Rattle.max_flow.specs.GrowingFlow.{ahead, back, flowIn}
+use Rattle.max_flow.specs.code.Residuals.{fullResidual, Flowing}
 use Rattle.max_flow.specs.laws.ResidualLaws.{full-ahead}
 
 -- what link k carries
@@ -73,20 +74,15 @@ module _ {net : Network} {s t : ℕ} (a : Endpoints net s t) {full : List (List 
         lawful =
             record {
               size = flows-long full r f (length f) ∙ l;
-              lawful =
-                  residual-lawful (graph net) s t v (a .apart) (ahead r) (back r) (b .flow) g (b .balanced .both) is
-                  (net .nodes);
+              lawful = lawful-same (graph net) g (flowIn net r) is (net .nodes) s t (b .flow .lawful);
             };
-        total = residual-total (graph net) s t v (a .apart) (ahead r) (back r) (b .flow) g (b .balanced .both) is;
+        total = total-same (graph net) g (flowIn net r) is s ∙ b .flow .total;
       }
     where
-      v : ℕ
-      v = minCutValue net s t
-
       g : ℕ → ℤ
       g = flowAt (linkFlows full r f)
 
-      is : (k : ℕ) → k < net .links → flowAt (linkFlows full r f) k ≡ pos (at (net .capacity) k) -ℤ pos (ahead r k)
+      is : (k : ℕ) → k < net .links → flowAt (linkFlows full r f) k ≡ flowIn net r k
       is k q =
           flows-at full r f (length f) k (omega arith) (omega arith) ∙ ap (λ c. pos c -ℤ pos (ahead r k))
           (capacity-at k q)

@@ -12,8 +12,10 @@ use Rattle.base.specs.Basics.{at}
 use Rattle.network.specs.Limits.{maxNodes, maxArcs}
 use Rattle.network.specs.Network.{networkFits, graph}
 use Rattle.network.specs.declared.Network.{Network}
-use Rattle.max_flow.specs.code.Residuals.{ahead, back, roomOn, sentAlong, Balanced, Along}
+use Rattle.max_flow.specs.GrowingFlow.{ahead, back}
+use Rattle.max_flow.specs.code.Residuals.{roomOn, sentAlong, Balanced, Along, Sent}
 use Rattle.max_flow.specs.laws.ResidualLaws.{along-pushed, along-balanced, along-other, arc-lt}
+use Rattle.max_flow.specs.laws.GrowthLaws.{sent-by}
 use Rattle.max_flow.specs.code.Search.{Entered, TreeFrom}
 use Rattle.max_flow.specs.laws.SearchLaws.{place-lt, node-lt}
 use Rattle.max_flow.specs.declared.search.SearchTree.{SearchTree}
@@ -24,11 +26,6 @@ pub record Sending (net : Network) (s : ℕ) (r : List (List ℕ)) (w : SearchTr
   pub balanced : Balanced net r
   pub tree : TreeFrom net r s w
   pub amount : d ≤ at (w .bottleneck) (w .count - 1)
-
--- d is sent from s to the node reached last, which leaves r' of r
-pub record Sent (net : Network) (s : ℕ) (r : List (List ℕ)) (w : SearchTree) (d : ℕ) (r' : List (List ℕ)) : Type 0 where
-  pub balanced : Balanced net r'
-  pub pushed : Pushed (graph net) s (at (w .node) (w .count - 1)) d (ahead r) (back r) (ahead r') (back r')
 
 -- on the way, at place i: d is sent from there to the node reached last. What lies before has the room that the search
 -- found.
@@ -64,13 +61,10 @@ module _ {net : Network} {s : ℕ} {r : List (List ℕ)} {w : SearchTree} {d : �
       }
 
   module _ {i : ℕ} {r' : List (List ℕ)} (o : Half net r w d i r') where
-    pub half-end : i ≤ 0 → Sent net s r w d r'
+    pub half-end : i ≤ 0 → Sent net s (at (w .node) (w .count - 1)) d r r'
     half-end z =
         let y : i ≡ 0 = omega arith in
-        record {
-          balanced = o .balanced;
-          pushed = rw (← f .root) (rw y at (o .pushed));
-        }
+        sent-by (a .balanced) (o .balanced) (rw (← f .root) (rw y at (o .pushed)))
 
     module _ (p : 0 < i) where
       entry : Entered net r w i

@@ -1,17 +1,19 @@
 -- The residual capacities as the code holds them (the paper: "each link has two spare capacities, one each way"): a
 -- row of two for each link.
 use mathlib.Core.Path.{_≡_}
+use mathlib.Core.Logic.{_≢_}
 use mathlib.Core.Bool.{Bool, true, false, cond}
 use mathlib.Core.List.{List, [], _∷_}
 use Prim.Native.Nat.{ℕ, zero, suc, _+_, _-_, _*_, _/_, _<_, _≤_}
 use lib.Dec.{leb}
-use lib.ListN.{getD, set, length, replicate}
+use lib.ListN.{set, length, replicate}
 use Rattle.min_cut.specs.code.Arcs.{spare, forward}
-use Rattle.min_cut.specs.code.Residual.{ResidualFlow}
+use Rattle.min_cut.specs.code.Residual.{Pushed}
 use Rattle.base.specs.Basics.{at}
 use Rattle.network.specs.Limits.{maxLinks}
 use Rattle.network.specs.Network.{networkFits, graph}
 use Rattle.network.specs.declared.Network.{Network}
+use Rattle.max_flow.specs.GrowingFlow.{ahead, back, HasTotal, Improved}
 
 -- no limit to what can be sent: more than any cut's value
 abbrev pub unlimited : ℕ
@@ -19,13 +21,6 @@ unlimited = 4294967295
 
 abbrev pub lesserOf : ℕ → ℕ → ℕ
 lesserOf a b = cond (leb a b) a b
-
--- link k's residual capacity from a to b, and the one back
-abbrev pub ahead : List (List ℕ) → ℕ → ℕ
-ahead r k = getD (getD r k []) 0 0
-
-abbrev pub back : List (List ℕ) → ℕ → ℕ
-back r k = getD (getD r k []) 1 0
 
 -- what may still be sent along arc e
 abbrev pub roomOn : List (List ℕ) → ℕ → ℕ
@@ -61,7 +56,14 @@ pub record Along (net : Network) (r : List (List ℕ)) (e d : ℕ) : Type 0 wher
   pub here : e < 2 * net .links
   pub spare : d ≤ roomOn r e
 
--- r holds a flow of v from s to t
+-- r holds a flow from s to t, and v is its total
 pub record Flowing (net : Network) (s t v : ℕ) (r : List (List ℕ)) : Type 0 where
   pub balanced : Balanced net r
-  pub flow : ResidualFlow (graph net) s t v (ahead r) (back r)
+  pub flow : HasTotal net s t v r
+
+-- one push: d more is sent from u to w, which leaves r' of r. It improves the flow from u to w by d; `pushed`, what it
+-- does to the residual capacity of every side, is how pushes along a way add up
+pub record Sent (net : Network) (u w d : ℕ) (r r' : List (List ℕ)) : Type 0 where
+  pub improved : u ≢ w → Improved net u w d r r'
+  pub balanced : Balanced net r'
+  pub pushed : Pushed (graph net) u w d (ahead r) (back r) (ahead r') (back r')

@@ -16,7 +16,8 @@ use Rattle.network.specs.code.Incidence.{Chains}
 use Rattle.network.specs.declared.Network.{Network}
 use Rattle.node_set.specs.Set.{empty, added, size}
 use Rattle.max_flow.specs.LeastCut.{Endpoints}
-use Rattle.max_flow.specs.code.Residuals.{unlimited, ahead, back, roomOn}
+use Rattle.max_flow.specs.GrowingFlow.{ahead, back}
+use Rattle.max_flow.specs.code.Residuals.{unlimited, roomOn}
 use Rattle.max_flow.specs.declared.search.SearchTree.{SearchTree}
 
 -- two nodes, and the chains of the network's arcs

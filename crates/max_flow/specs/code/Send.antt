@@ -8,10 +8,9 @@ use native.Mathlib.Omega.{arith}
 use native.Mathlib.Decide.{ℕ-discrete}
 use borrow.Author.Tests.{eq-eqb, ne-eqb, leb-true, leb-false}
 use lib.Dec.{leb}
-use Rattle.base.specs.laws.Bools.{bool1}
 use Rattle.min_cut.specs.Cut.{Net}
 use Rattle.base.specs.Word.{holds}
-use Rattle.min_cut.specs.code.Residual.{Pushed, when, more}
+use Rattle.min_cut.specs.code.Residual.{Pushed, when-none, when-add}
 use Rattle.min_cut.specs.code.Arcs.{tail, tip, spare, forward}
 use Rattle.base.specs.Basics.{at}
 use Rattle.network.specs.Limits.{maxArcs}
@@ -19,8 +18,10 @@ use Rattle.network.specs.Network.{networkFits, graph}
 use Rattle.network.specs.declared.Network.{Network}
 use Rattle.node_set.specs.Set.{added}
 use Rattle.node_set.specs.Members.{added-same, added-keeps}
-use Rattle.max_flow.specs.code.Residuals.{lesserOf, ahead, back, roomOn, sentAlong, Balanced, Along, Flowing}
+use Rattle.max_flow.specs.GrowingFlow.{ahead, back}
+use Rattle.max_flow.specs.code.Residuals.{lesserOf, roomOn, sentAlong, Balanced, Along, Flowing, Sent}
 use Rattle.max_flow.specs.laws.ResidualLaws.{lesser-fits, along-pushed, along-balanced, along-other}
+use Rattle.max_flow.specs.laws.GrowthLaws.{sent-by}
 use Rattle.max_flow.specs.code.Search.{Ready}
 
 -- the arc back
@@ -44,15 +45,8 @@ pub record Way (net : Network) (r : List (List ℕ)) (on u x j d : ℕ) : Type 0
 -- d, at most the limit, is sent from u to t, which leaves r' of r; no arc to a node of `on` has less room than before
 pub record Sends (net : Network) (t on u limit d : ℕ) (r r' : List (List ℕ)) : Type 0 where
   pub within : d ≤ limit
-  pub balanced : Balanced net r'
-  pub pushed : Pushed (graph net) u t d (ahead r) (back r) (ahead r') (back r')
+  pub sent : Sent net u t d r r'
   pub kept : (e : ℕ) → holds on (tip (graph net) e) ≡ true → roomOn r e ≤ roomOn r' e
-
-when-none : (x : Bool) → when x 0 ≡ 0
-when-none = bool1 _ (omega arith)
-
-when-sum : (v d : ℕ) (x : Bool) → when x (v + d) ≡ when x v + when x d
-when-sum v d = bool1 _ (omega arith)
 
 -- ---- the test of an arc
 pub other-lt : (j : ℕ) → j < maxArcs → otherWay j < maxArcs
@@ -107,13 +101,13 @@ module _ {net : Network} {to : List ℕ} {r : List (List ℕ)} (a : Consistent n
 -- what is left after a call
 pub consistent-next : {net : Network} {to : List ℕ} {t on u limit d : ℕ} {r r' : List (List ℕ)} → Consistent net to r
     → Sends net t on u limit d r r' → Consistent net to r'
-consistent-next a o = record { fits = a .fits; leads = a .leads; balanced = o .balanced }
+consistent-next a o = record { fits = a .fits; leads = a .leads; balanced = o .sent .balanced }
 
 -- ---- what is sent
 -- at t itself
 pub send-there : {net : Network} {t on limit : ℕ} {r : List (List ℕ)} → Balanced net r
     → Sends net t on t limit limit r r
-send-there b = record { within = omega arith; balanced = b; pushed = λ X. refl; kept = λ e h. omega arith }
+send-there b = record { within = omega arith; sent = sent-by b b (λ X. refl); kept = λ e h. omega arith }
 
 module _ {net : Network} {t on u : ℕ} where
   -- nothing yet
@@ -121,27 +115,27 @@ module _ {net : Network} {t on u : ℕ} where
   send-none b =
       record {
         within = omega arith;
-        balanced = b;
-        pushed = λ X. omega (arith, when-none (X u), when-none (X t));
+        sent = sent-by b b (λ X. omega (arith, when-none (X u), when-none (X t)));
         kept = λ e h. omega arith;
       }
 
   -- more, of what is left of the limit
-  pub send-more : {limit sent left d : ℕ} {r r1 r2 : List (List ℕ)} → Sends net t on u limit sent r r1
-      → Sends net t on u left d r1 r2 → left ≡ limit - sent
+  pub send-more : {limit sent left d : ℕ} {r r1 r2 : List (List ℕ)} → Balanced net r
+      → Sends net t on u limit sent r r1 → Sends net t on u left d r1 r2 → left ≡ limit - sent
       → Sends net t on u limit (sent + d) r r2
-  send-more {limit} {sent} {left} {d} o a q =
+  send-more {limit} {sent} {left} {d} b o a q =
       record {
         within = omega (arith, o .within, a .within);
-        balanced = a .balanced;
-        pushed = λ X. omega (arith, o .pushed X, a .pushed X, when-sum sent d (X u), when-sum sent d (X t));
+        sent =
+            sent-by b (a .sent .balanced)
+            (λ X. omega (arith, o .sent .pushed X, a .sent .pushed X, when-add sent d (X u), when-add sent d (X t)));
         kept = λ e h. omega (arith, o .kept e h, a .kept e h);
       }
 
   -- by arc j to x, and on from there
   module _ {x j spare want d on' : ℕ} {r r1 : List (List ℕ)} (limit : ℕ) (f : networkFits net ≡ true)
-      (y : 0 < spare → Way net r on u x j spare) (e : want ≡ lesserOf spare limit) (p : want ≢ 0) (q : on' ≡ added on x)
-      (a : Sends net t on' x want d r r1) where
+      (b : Balanced net r) (y : 0 < spare → Way net r on u x j spare) (e : want ≡ lesserOf spare limit) (p : want ≢ 0)
+      (q : on' ≡ added on x) (a : Sends net t on' x want d r r1) where
     lesser : (lesserOf spare limit ≤ spare) × (lesserOf spare limit ≤ limit)
     lesser = (lesser-fits spare limit .0, lesser-fits spare limit .1)
 
@@ -152,7 +146,7 @@ module _ {net : Network} {t on u : ℕ} where
     dl = omega (arith, a .within, e, lesser .0, w .fits, a .kept j (rw (q, w .leads) (added-same on x)))
 
     pub send-along : Along net r1 j d
-    send-along = record { fits = f; balanced = a .balanced; here = w .here; spare = dl }
+    send-along = record { fits = f; balanced = a .sent .balanced; here = w .here; spare = dl }
 
     apart : (i : ℕ) → holds on (tip (graph net) i) ≡ true → i ≢ j
     apart i h z = true≢false (sym h ∙ ap (λ k. holds on (tip (graph net) k)) z ∙ ap (holds on) (w .leads) ∙ w .off)
@@ -164,8 +158,7 @@ module _ {net : Network} {t on u : ℕ} where
     send-way =
         record {
           within = omega (arith, a .within, e, lesser .1);
-          balanced = along-balanced send-along;
-          pushed = λ X. omega (arith, a .pushed X, one X);
+          sent = sent-by b (along-balanced send-along) (λ X. omega (arith, a .sent .pushed X, one X));
           kept = λ i h.
               omega (
                 arith,
@@ -173,26 +166,6 @@ module _ {net : Network} {t on u : ℕ} where
                 along-other send-along i (apart i h),
               );
         }
-
--- what a call from s adds to a flow
-pub send-flow : {net : Network} {s t on v limit d : ℕ} {r r' : List (List ℕ)} → Flowing net s t v r
-    → Sends net t on s limit d r r' → Flowing net s t (v + d) r'
-send-flow {net} {s} {t} {on} {v} {limit} {d} {r} {r'} f a =
-    record {
-      balanced =
-          a .balanced;
-      flow = more (graph net) s t v d (ahead r) (back r) (ahead r') (back r') (f .flow) (a .pushed);
-    }
-
-pub flow-none : {net : Network} {s t v : ℕ} {r : List (List ℕ)} → Flowing net s t v r → Flowing net s t (v + 0) r
-flow-none {net} {s} {t} {v} f = let q : v + 0 ≡ v = omega arith in rw q f
-
-pub flow-more : {net : Network} {s t on limit d : ℕ} {r r' : List (List ℕ)} (v sent : ℕ) → Flowing net s t (v + sent) r
-    → Sends net t on s limit d r r'
-    → Flowing net s t (v + (sent + d)) r'
-flow-more {net} {s} {t} {on} {limit} {d} v sent f a =
-    let q : v + (sent + d) ≡ v + sent + d = omega arith in
-    rw q (send-flow f a)
 
 pub consistent-flow : {net : Network} {to : List ℕ} {s t v : ℕ} {r r' : List (List ℕ)} → Consistent net to r
     → Flowing net s t v r' → Consistent net to r'

@@ -18,7 +18,8 @@ use Rattle.network.specs.Limits.{maxLinks, maxArcs, maxCapacity}
 use Rattle.network.specs.Network.{networkFits, graph}
 use Rattle.network.specs.laws.NetworkLaws.{links-le, capacity-le}
 use Rattle.network.specs.declared.Network.{Network}
-use Rattle.max_flow.specs.code.Residuals.{lesserOf, ahead, back, roomOn, rowAfter, sentAlong, fullUpTo, fullResidual}
+use Rattle.max_flow.specs.GrowingFlow.{ahead, back}
+use Rattle.max_flow.specs.code.Residuals.{lesserOf, roomOn, rowAfter, sentAlong, fullUpTo, fullResidual}
 use Rattle.max_flow.specs.code.Residuals.{Balanced, Along}
 
 -- the lesser of two

@@ -19,7 +19,8 @@ use Rattle.network.specs.declared.Network.{Network}
 use Rattle.node_set.specs.Set.{empty, added}
 use Rattle.node_set.specs.Members.{holds-empty, empty-lt, added-same, added-other, added-keeps, added-lt}
 use Rattle.node_set.specs.laws.SizeLaws.{size-le, size-empty, size-added, member-lt}
-use Rattle.max_flow.specs.code.Residuals.{lesserOf, ahead, back, roomOn}
+use Rattle.max_flow.specs.GrowingFlow.{ahead, back}
+use Rattle.max_flow.specs.code.Residuals.{lesserOf, roomOn}
 use Rattle.max_flow.specs.laws.ResidualLaws.{lesser-fits}
 use Rattle.max_flow.specs.code.Search.{seedOf, grown, Entered, TreeFrom}
 use Rattle.max_flow.specs.declared.search.SearchTree.{SearchTree}

@@ -46,6 +46,12 @@ pub record At (k : ℕ) (p q p′ q′ : ℕ → ℕ) : Type 0 where
   pub p-other : (i : ℕ) → i ≢ k → p′ i ≡ p i
   pub q-other : (i : ℕ) → i ≢ k → q′ i ≡ q i
 
+pub when-none : (x : Bool) → when x 0 ≡ 0
+when-none = bool1 _ (omega arith)
+
+pub when-add : (v d : ℕ) (x : Bool) → when x (v + d) ≡ when x v + when x d
+when-add v d = bool1 _ (omega arith)
+
 leaving-start : (c : ℕ) (x y : Bool) → leaving x y c c ≡ crossing x y c
 leaving-start c = bool2 _ (omega arith)
 
@@ -64,8 +70,8 @@ module _ (G : Net) where
       omega (
         arith,
         sum-ext (G .m) _ _ (λ k l. leaving-start (G .c k) (X (G .a k)) (X (G .b k))),
-        bool1 (λ x. when x 0 ≡ 0) (omega arith) (X s),
-        bool1 (λ x. when x 0 ≡ 0) (omega arith) (X t),
+        when-none (X s),
+        when-none (X t),
       )
 
   residual-at : (p q p′ q′ : ℕ → ℕ) (k : ℕ) → k < G .m → At k p q p′ q′ → (X : Side)
@@ -97,9 +103,6 @@ module _ (G : Net) where
   pub pushed-trans : (u w z d : ℕ) (p q p′ q′ p″ q″ : ℕ → ℕ) → Pushed G u w d p q p′ q′ → Pushed G w z d p′ q′ p″ q″
       → Pushed G u z d p q p″ q″
   pushed-trans u w z d p q p′ q′ p″ q″ h g X = omega (arith, h X, g X)
-
-  when-add : (v d : ℕ) (x : Bool) → when x (v + d) ≡ when x v + when x d
-  when-add v d = bool1 _ (omega arith)
 
   -- a flow of v and d more
   pub more : (s t v d : ℕ) (p q p′ q′ : ℕ → ℕ) → ResidualFlow G s t v p q → Pushed G s t d p q p′ q′

@@ -1,6 +1,7 @@
--- `augment` meets its contract: the residual capacities hold a flow of `total`, which grows with each path and is at most `maxValue`.
+-- `augment` meets its contract: at every turn `total` is that of the flow which the residual capacities hold, and it is at most
+-- `maxValue`.
 use mathlib.Core.Path.{_≡_, refl, sym, _∙_}
-use Prim.Native.Nat.{_+_, _-_, _<_}
+use Prim.Native.Nat.{_-_, _<_}
 use native.Mathlib.Omega.{arith}
 use lib.Dec.{lit<}
 use borrow.Author.Needs.{needs, scaled-fits}
@@ -11,8 +12,9 @@ use Rattle.network.specs.declared.Network.{Network}
 use Rattle.max_flow.specs.code.LinkFlows.{moderate}
 use Rattle.max_flow.specs.code.Residuals.{fullResidual, Flowing}
 use Rattle.max_flow.specs.code.Search.{Ready}
-use Rattle.max_flow.specs.code.Augment.{Growth, flowing-start, flow-le, grows, sending, at-end, ends-lt, last-lt}
+use Rattle.max_flow.specs.code.Augment.{Growth, grows, sending, at-end, ends-lt, last-lt}
 use Rattle.max_flow.specs.code.Send.{ready-consistent}
+use Rattle.max_flow.specs.laws.GrowthLaws.{flow-start}
 use Rattle.max_flow.specs.declared.search.SearchTree.{SearchTree}
 use Rattle.max_flow.proofs.augment.augment.Statement.{statement}
 use Rattle.max_flow.proofs.augment.augment.Tie as tie
@@ -41,24 +43,20 @@ Named c net =
     (c .args .full .now ≡ fullResidual net)
 
 after : (c : tie.After-send-all Inv-loop μ-loop) (net : Network) → Named (start (turn c)) net
-    → Flowing net (start (turn c) .args .s) (start (turn c) .args .t) (turn c .loop .total + c .send-all .result)
-    (c .send-all .last .1 .1 .1 .0)
+    → Flowing net (start (turn c) .args .s) (start (turn c) .args .t) (c .send-all .result) (c .send-all .last .1 .1 .1 .0)
 after c net a =
     let f = turn c .loop .inv .1 net (a .0) (a .1) in
-    c .send-all .ensures net (turn c .loop .total) (ready-consistent (a .0) f) f
+    c .send-all .ensures .1 net (ready-consistent (a .0) f) f
 
 loop-holds : tie.Need-loop-holds Inv-loop μ-loop
-loop-holds c = (refl, λ net a q. flowing-start (a .ends) _ q)
+loop-holds c = (refl, λ net a q. flow-start (a .ends) _ q)
 
 send-all-requires : tie.Need-send-all-requires Inv-loop μ-loop
 send-all-requires c κs =
     let l = c .before .before in
     let p = start l .pre in
     let f = l .loop .inv .1 (p .0) (p .1) (p .2) in
-    (p .0, l .loop .total, p .1 .ends, ready-consistent (p .1) f, f)
-
-add-total : tie.Need-add-total Inv-loop μ-loop
-add-total c = let p = start (turn c) .pre in omega (arith, flow-le (p .1 .ends) (after c (p .0) (p .1, p .2)))
+    (p .0, p .1 .ends, ready-consistent (p .1) f, f)
 
 search-requires : tie.Need-search-requires Inv-loop μ-loop
 search-requires c κs = let p = start (turn c) .pre in (p .0, p .1)
@@ -105,7 +103,7 @@ push-requires c κs =
     let o = c .before .before .before .before in
     let st = start (turn (o .before)) in
     let p = st .pre in
-    (p .0, st .args .s, sending (p .1 .ends) (after (o .before) (p .0) (p .1, p .2)) (o .search .ensures (p .0) (p .1)))
+    (p .0, st .args .s, sending (p .1 .ends) (after (o .before) (p .0) (p .1, p .2)) (o .search .ensures (p .0) (p .1)) (omega arith))
 
 -- what the phases sent, and what the search found
 abbrev phases : tie.After-push Inv-loop μ-loop → tie.After-send-all Inv-loop μ-loop
@@ -117,19 +115,21 @@ found c = c .before .before .before .before .before .search .result
 -- the flow after the path
 grown : (c : tie.After-push Inv-loop μ-loop) (net : Network) → Named (start (turn (phases c))) net
     → Growth net (start (turn (phases c)) .args .s) (start (turn (phases c)) .args .t)
-    (turn (phases c) .loop .total + phases c .send-all .result) (at (found c .bottleneck) (found c .count - 1)) (c .push .result)
+    (phases c .send-all .result) (at (found c .bottleneck) (found c .count - 1)) (c .push .result)
 grown c net a =
     let f = after (phases c) net a in
     let o = c .before .before .before .before .before .search .ensures net (a .0) in
     grows (a .0 .ends) f o
     (sym (c .before .before .before .before .contains .ensures) ∙ not-false _ (c .before .before .before .if1 .left))
-    (c .push .ensures net (start (turn (phases c)) .args .s) (sending (a .0 .ends) f o))
+    (c .push .ensures net (start (turn (phases c)) .args .s) (sending (a .0 .ends) f o (omega arith)))
 
-add-total-2 : tie.Need-add-total-2 Inv-loop μ-loop
-add-total-2 c = let p = start (turn (phases c)) .pre in omega (arith, grown c (p .0) (p .1, p .2) .most)
+add-total : tie.Need-add-total Inv-loop μ-loop
+add-total c = let p = start (turn (phases c)) .pre in omega (arith, grown c (p .0) (p .1, p .2) .most)
 
 loop-less : tie.Need-loop-less Inv-loop μ-loop
-loop-less c = let p = start (turn (phases c)) .pre in omega (arith, grown c (p .0) (p .1, p .2))
+loop-less c =
+    let p = start (turn (phases c)) .pre in
+    omega (arith, phases c .send-all .ensures .0, grown c (p .0) (p .1, p .2))
 
 loop-again : tie.Need-loop-again Inv-loop μ-loop
 loop-again c = (turn (phases c) .loop .inv .0, λ net a q. grown c net (a, q) .flowing)
@@ -142,7 +142,6 @@ augment-spec =
     μ-loop
     loop-holds
     send-all-requires
-    add-total
     search-requires
     contains-requires
     write-flow-requires
@@ -152,6 +151,6 @@ augment-spec =
     mul-d
     element-copy-out-d
     push-requires
-    add-total-2
+    add-total
     loop-less
     loop-again)

@@ -11,7 +11,7 @@ use borrow.Author.Needs.{scaled-fits}
 use mir.Facts.{toZ-ofZ}
 use mir.Syntax.{w32}
 use Rattle.network.specs.Limits.{maxLinks, maxCapacity}
-use Rattle.max_flow.specs.code.Residuals.{ahead, back}
+use Rattle.max_flow.specs.GrowingFlow.{ahead, back}
 use Rattle.max_flow.specs.code.LinkFlows.{linkFlowsUpTo, flows-long}
 use Rattle.max_flow.proofs.flows.write_flow.Statement.{statement}
 use Rattle.max_flow.proofs.flows.write_flow.Tie as tie

@@ -111,7 +111,7 @@ sent : (t : ℕ) (c : send-lts.After-send-by (send-claims t) (send-at t) send.Po
     (tried t c .loop .sent + c .send-by .result) (tried t c .before .args .residual .now) (c .send-by .last .1 .1 .1 .0)
 sent t c net a =
     let l = tried t c .loop .inv .2 net a in
-    send-more l (c .send-by .ensures net (consistent-next a l)) refl
+    send-more (a .balanced) l (c .send-by .ensures net (consistent-next a l)) refl
 
 send-loop-holds : (t : ℕ) → send-lts.Need-loop-holds (send-claims t) (send-at t) send.Post send-Inv-loop send-μ-loop
 send-loop-holds t c = (omega arith, omega arith, λ net a. send-none (a .balanced))
@@ -192,8 +192,8 @@ send-by-along-requires t c κs =
     let net = st .pre .1 .1 .0 in
     let a = st .pre .1 .1 .1 in (
       net,
-      send-along (st .args .limit) (a .fits) (tested .allowed .ensures net a) (want .before .lesser .ensures) (want .if1 .left)
-          (c .before .before .add .ensures) (c .before .send-from .ensures net a),
+      send-along (st .args .limit) (a .fits) (a .balanced) (tested .allowed .ensures net a) (want .before .lesser .ensures)
+          (want .if1 .left) (c .before .before .add .ensures) (c .before .send-from .ensures net a),
     )
 
 send-by-note-sent-requires : (t : ℕ) → send-by-lts.Need-note-sent-requires (send-by-claims t) (send-by-at t) send-by.Post
@@ -212,7 +212,7 @@ send-by-returns-2 t c =
     let st = tested .before .before in
     λ net a.
     rw (c .before .before .before .before .along .ensures)
-    (send-way (st .args .limit) (a .fits) (tested .allowed .ensures net a) (want .before .lesser .ensures) (want .if1 .left)
+    (send-way (st .args .limit) (a .fits) (a .balanced) (tested .allowed .ensures net a) (want .before .lesser .ensures) (want .if1 .left)
     (sent .before .add .ensures) (sent .send-from .ensures net a))
 
 -- ---- send_from
