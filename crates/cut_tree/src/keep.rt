@@ -13,7 +13,7 @@ use network::{MAX_ARCS, MAX_LINKS, MAX_NODES};
 use node_set::contains;
 
 // A link between a and b whose capacity goes from `old` to `new`.
-#[derive(Drop)]
+#[derive(Clone, Copy)]
 pub struct Change {
     pub a: usize,
     pub b: usize,
@@ -22,7 +22,7 @@ pub struct Change {
 }
 
 // A recorded step: its pivot, its side and that side's value.
-#[derive(Drop)]
+#[derive(Clone, Copy)]
 pub struct OldStep {
     pub pivot: usize,
     pub side: u64,

@@ -1,5 +1,7 @@
 // Cut trees (docs/SCOPE.md, 4 and 5): built by Gusfield's rule, worked out again after a change, asked for a pair and
 // for their lightest edge.
+#![tactic(auto)]
+
 mod keep; // which steps are kept, and a step's cut
 mod lightest; // the lightest edge of a tree
 mod path; // the pair query with its refusals, and whether a node reaches node 0
@@ -13,7 +15,7 @@ use network::MAX_NODES;
 
 // A cut tree: every node's parent, and the weight of the edge between them. Node 0 has parent 0 and weight 0.
 #[repr(C)]
-#[derive(Drop)]
+#[derive(Clone, Copy)]
 pub struct Tree {
     pub parent: [u8; MAX_NODES],
     pub weight: [u32; MAX_NODES],
@@ -21,7 +23,7 @@ pub struct Tree {
 
 // An edge of a tree: the node below it, and its weight. Both 0 where there is none.
 #[repr(C)]
-#[derive(Drop)]
+#[derive(Clone, Copy)]
 pub struct Edge {
     pub node: u32,
     pub weight: u32,
@@ -29,7 +31,7 @@ pub struct Edge {
 
 // The steps that made a tree: for each node from 1 up its pivot, its least minimum cut and that cut's value.
 #[repr(C)]
-#[derive(Drop)]
+#[derive(Clone, Copy)]
 pub struct Steps {
     pub pivot: [u8; MAX_NODES],
     pub side: [u64; MAX_NODES],
@@ -37,7 +39,7 @@ pub struct Steps {
 }
 
 // A tree, its steps, and how many of the steps were not kept.
-#[derive(Drop)]
+#[derive(Clone, Copy)]
 pub struct Built {
     pub tree: Tree,
     pub steps: Steps,
@@ -45,7 +47,7 @@ pub struct Built {
 }
 
 // The cut of a step, and 1 where it was worked out, 0 where a recorded one was kept.
-#[derive(Drop)]
+#[derive(Clone, Copy)]
 pub struct StepCut {
     pub side: u64,
     pub value: u32,
@@ -54,7 +56,7 @@ pub struct StepCut {
 
 // What a pair call finds: a refusal number; or the lightest tree edge between s and t, the lowest number among equals,
 // by its weight and the node below it, the side that holds s once that edge is cut, and how many nodes that side has.
-#[derive(Drop)]
+#[derive(Clone, Copy)]
 pub enum PairAnswer {
     Refused(u32),
     Found {

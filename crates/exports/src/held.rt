@@ -10,7 +10,7 @@ use plan::{HeadroomReply, Plan};
 
 // A pair's answer as numbers: zeros beside a refusal.
 #[repr(C)]
-#[derive(Drop)]
+#[derive(Clone, Copy)]
 pub struct PairReply {
     pub number: u32,
     pub weight: u32,
@@ -104,7 +104,7 @@ pub extern "C" fn pamzolit_pair(plan: &Plan, s: usize, t: usize, reply: &mut Pai
 }
 
 // A preview's answer as numbers, and its count.
-#[derive(Drop)]
+#[derive(Clone, Copy)]
 struct PreviewNumbers {
     pair: PairReply,
     count: u32,

@@ -1,4 +1,6 @@
 // What C and Rust programs call (include/pamzolit.h). Each function takes every input.
+#![tactic(auto)]
+
 mod held; // a plan that the caller holds
 mod window; // a gate's record that the caller holds
 

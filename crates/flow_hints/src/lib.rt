@@ -1,6 +1,8 @@
 // Hints for the flow core: where flow is to be sent first. A wrong one costs time and nothing else, so what a hint
 // leads to is promised nowhere: whoever follows one tests it. The contracts say what each function writes into the
 // hints or the table, or reads from them; of `sweep`, `arc_by` and `spare` only that what they name is in bounds.
+#![tactic(auto)]
+
 ghost use Rattle.std.specs.Prelude.{true, ◌≡◌, ◌<◌, ◌≤◌};
 ghost use Rattle.flow_hints.specs.code.Hints.{arc_of, arc_put, has_room, leading_to, leads_to};
 ghost use Rattle.flow_hints.specs.code.Hints.{sent_noted, short_noted, shut_noted, start_hints, table_filled};

@@ -1,6 +1,8 @@
 // The gate window (docs/SCOPE.md, 6): a gate's three running numbers in a record that its caller holds, and the four
 // characters that it shows. It calls the plan's headroom, and knows of it what is stated. Each contract is an equality,
 // of every record: also of one that no reset made.
+#![tactic(auto)]
+
 mod shown; // the four characters
 mod tally; // a reading of a record that is passed by value
 
@@ -19,7 +21,7 @@ pub const WINDOW_WIDTH: usize = 4;
 
 // The last headroom, the lowest since the last reset, and the number of readings accepted since then.
 #[repr(C)]
-#[derive(Drop)]
+#[derive(Clone, Copy)]
 pub struct Window {
     pub last: i32,
     pub lowest: i32,
@@ -28,14 +30,14 @@ pub struct Window {
 
 // A refusal's number, or 0, and what the window shows.
 #[repr(C)]
-#[derive(Drop)]
+#[derive(Clone, Copy)]
 pub struct WindowReply {
     pub number: u32,
     pub text: [u8; WINDOW_WIDTH],
 }
 
 // What a reading leaves of the record that it was given, and its reply.
-#[derive(Drop)]
+#[derive(Clone, Copy)]
 pub struct Updated {
     pub window: Window,
     pub reply: WindowReply,

@@ -1,4 +1,6 @@
 // What the program `pairs` prints for a file.
+#![tactic(auto)]
+
 mod line; // a word and numbers
 mod lines; // the lines of a plan
 

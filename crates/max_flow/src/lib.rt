@@ -1,4 +1,6 @@
 // Minimum cuts and maximum flows between two nodes of a network (docs/SCOPE.md, 3 and 4).
+#![tactic(auto)]
+
 mod augment; // flow sent until no search reaches the sink
 mod flows; // what each link carries
 mod residual; // residual capacities
@@ -18,7 +20,7 @@ use flow_hints::{HINTS, TABLE, fill_table, start_hints};
 use network::{MAX_ARCS, MAX_LINKS, MAX_NODES, Network, incidence_of};
 
 // A cut: one of its sides, and its value.
-#[derive(Drop)]
+#[derive(Clone, Copy)]
 pub struct Cut {
     pub side: u64,
     pub value: u32,

@@ -10,7 +10,7 @@ use node_set::{add, contains, empty};
 
 // The nodes reached, by place, in the order in which they were: node[i] was entered by arc[i] from the node at the
 // earlier place from[i], and bottleneck[i] can be sent to it along the tree.
-#[derive(Drop)]
+#[derive(Clone, Copy)]
 pub struct SearchTree {
     pub count: usize,
     pub reached: u64,

@@ -1,1 +1,2 @@
 // No code: the theory of cuts, flows and cut trees.
+#![tactic(auto)]

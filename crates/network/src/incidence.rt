@@ -10,7 +10,7 @@ use crate::{MAX_ARCS, MAX_NODES, Network};
 
 // first[u] is one more than the last arc that leaves u, and next[e] one more than the last arc before e with e's tail;
 // 0 where there is none. to[e] is where arc e leads.
-#[derive(Drop)]
+#[derive(Clone, Copy)]
 pub struct Incidence {
     pub first: [u16; MAX_NODES],
     pub next: [u16; MAX_ARCS],

@@ -1,4 +1,6 @@
 // The network (docs/SCOPE.md, 1): the record, the test of its limits, and what searches and trials need of it.
+#![tactic(auto)]
+
 mod blank; // unused places
 mod cut; // the value of a cut
 mod incidence; // each node's own arcs, for a search to walk
@@ -35,7 +37,7 @@ pub const MAX_GROUPS: usize = 3;
 // A network: nodes 0 to nodes - 1, and links of which link k joins a[k] and b[k] and has capacity[k]. Unused places are
 // 0.
 #[repr(C)]
-#[derive(Drop)]
+#[derive(Clone, Copy)]
 pub struct Network {
     pub nodes: usize,
     pub links: usize,

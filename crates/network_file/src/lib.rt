@@ -1,4 +1,6 @@
 // The file of a network: numbers, a file read into a network, a network written into a file.
+#![tactic(auto)]
+
 mod numbers; // numbers in groups of seven bits
 mod reader; // a file read into a network
 mod rows; // what a number has to pass
@@ -39,14 +41,14 @@ pub fn max_file() -> usize
 }
 
 // What stands at the front of a part of a file: a number with the bytes that it has, or a refusal number.
-#[derive(Drop)]
+#[derive(Clone, Copy)]
 pub enum Number {
     Value(u32, usize),
     Refused(u32),
 }
 
 // What a file reads as: number and place of the first fault beside a network of all zeros; or 0, 0 and the network.
-#[derive(Drop)]
+#[derive(Clone, Copy)]
 pub struct Reading {
     pub number: u32,
     pub place: usize,
@@ -54,14 +56,14 @@ pub struct Reading {
 }
 
 // What writing a file gives: its length; or a refusal number and 0.
-#[derive(Drop)]
+#[derive(Clone, Copy)]
 pub struct FileWritten {
     pub number: u32,
     pub length: usize,
 }
 
 // What a number of the file has to pass: n; at most so much, by the row of this number; an end; the other end of a.
-#[derive(Drop)]
+#[derive(Clone, Copy)]
 enum Row {
     Nodes,
     AtMost { most: u32, number: u32 },
@@ -70,7 +72,7 @@ enum Row {
 }
 
 // A number taken from the file: number 0, its value and the place behind it; or a refusal number and its own place.
-#[derive(Drop)]
+#[derive(Clone, Copy)]
 struct Taken {
     number: u32,
     value: u32,
@@ -79,7 +81,7 @@ struct Taken {
 
 // A link that was read: number 0, the place behind it, its ends and capacity; or a refusal number and the place of
 // the faulty number.
-#[derive(Drop)]
+#[derive(Clone, Copy)]
 struct Link {
     number: u32,
     place: usize,
@@ -90,7 +92,7 @@ struct Link {
 
 // How far a file has been read: number 0, the place where reading goes on and the network so far; or a refusal number,
 // its place and no network.
-#[derive(Drop)]
+#[derive(Clone, Copy)]
 struct Progress {
     number: u32,
     place: usize,

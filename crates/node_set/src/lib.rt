@@ -1,5 +1,7 @@
 // Sets of at most 64 nodes, each a word with bit i for node i (docs/SCOPE.md, 3). Each contract is the
 // definition of the same name in specs/Set.antt.
+#![tactic(auto)]
+
 ghost use Rattle.std.specs.Prelude.{◌≡◌, ◌^◌, ◌<◌, ◌≤◌};
 ghost use Rattle.base.specs.Word.{holds};
 ghost use Rattle.node_set.specs.Set.{width, empty, single, added, removed, union, intersection, difference};

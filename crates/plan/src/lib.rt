@@ -1,5 +1,7 @@
 // The link plan (docs/SCOPE.md): a network with its cut tree and the changes that can be undone. Each call's contract
 // is the definition of its name in specs/Calls.antt, and holds of every input.
+#![tactic(auto)]
+
 mod answers; // pairs and headrooms
 mod changes; // change and undo
 mod checks; // refusals of change, undo and preview
@@ -24,7 +26,7 @@ pub const MAX_DEPTH: usize = 64;
 // Changes that can be undone: entry i is a link and the capacity that it had before; the top is entry depth - 1. Unused
 // places are 0.
 #[repr(C)]
-#[derive(Drop)]
+#[derive(Clone, Copy)]
 pub struct Stack {
     pub depth: usize,
     pub link: [u16; MAX_DEPTH],
@@ -34,7 +36,7 @@ pub struct Stack {
 // A network with its cut tree, the steps that made the tree, the changes that can be undone, and the tree's lightest
 // edge.
 #[repr(C)]
-#[derive(Drop)]
+#[derive(Clone, Copy)]
 pub struct Plan {
     pub network: Network,
     pub tree: Tree,
@@ -45,14 +47,14 @@ pub struct Plan {
 
 // Replies. A number is a refusal's, or 0.
 
-#[derive(Drop)]
+#[derive(Clone, Copy)]
 pub struct Opening {
     pub number: u32,
     pub place: usize,
     pub plan: Plan,
 }
 
-#[derive(Drop)]
+#[derive(Clone, Copy)]
 pub struct Changed {
     pub number: u32,
     pub count: u32,
@@ -60,21 +62,21 @@ pub struct Changed {
 }
 
 // The number is the answer's.
-#[derive(Drop)]
+#[derive(Clone, Copy)]
 pub struct PreviewReply {
     pub answer: PairAnswer,
     pub count: u32,
 }
 
 #[repr(C)]
-#[derive(Drop)]
+#[derive(Clone, Copy)]
 pub struct HeadroomReply {
     pub number: u32,
     pub value: i32,
     pub text: [u8; TEXT_WIDTH],
 }
 
-#[derive(Drop)]
+#[derive(Clone, Copy)]
 pub struct Written {
     pub number: u32,
     pub length: usize,

@@ -2,14 +2,14 @@
 ghost use Rattle.std.specs.Prelude.{length, ◌≤◌};
 
 // The first `count` of these bytes.
-#[derive(Drop)]
+#[derive(Clone, Copy)]
 pub struct Bytes {
     pub count: usize,
     pub bytes: [u8; 64],
 }
 
 // The first four arguments, as numbers.
-#[derive(Drop)]
+#[derive(Clone, Copy)]
 pub struct Given {
     pub first: u32,
     pub second: u32,

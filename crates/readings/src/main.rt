@@ -2,6 +2,8 @@
 // command and its arguments, as in `n 64: open 40 00` or `P3: change 1 1`; of the command only the first letter counts.
 // A command works on the plan that the lines before it left; at first there is none, which is a plan of all zeros. What
 // must come of each line is in the file stdout.
+#![tactic(auto)]
+
 mod answers; // commands that ask the plan: pair, view (a preview), headroom
 mod bend; // the command that sets one number of the plan by hand
 mod changes; // commands that change the plan: change, undo, repeat, drain

@@ -1,5 +1,7 @@
 // Signed tenths: their difference, sign and size, and their text of twelve bytes. The places before the last three are
 // filled from the right: digits while there are any, then a minus if one is owed, then spaces.
+#![tactic(auto)]
+
 ghost use Rattle.std.specs.Prelude.{nat_abs, neg_ℤ, pos, ◌-ℤ◌, false, ◌≡◌, length, ◌+◌, ◌<◌, ◌≤◌, ◌^◌};
 ghost use Rattle.std.proofs.lemmas.List.Edits.{sets};
 ghost use Rattle.text.specs.code.Columns.{is_negative, mark_of, owes, tenths_from};

@@ -1,4 +1,6 @@
 // The tree of a file worked out several times, so that its cuts can be timed apart from reading and from the plan.
+#![tactic(auto)]
+
 ghost use Rattle.std.specs.Prelude.{true, ◌≡◌};
 ghost use Rattle.network.specs.Network.{network_fits};
 ghost use Rattle.timing.specs.Timing.{weight_of, weight_after, timed_of};

@@ -4,7 +4,7 @@ use plan::HeadroomReply;
 use std::num::wrapping_add_u64;
 
 // The twelve bytes for a size in tenths, from the right: a digit, a point, digits, a minus if there is one, spaces.
-#[derive(Drop)]
+#[derive(Clone, Copy)]
 struct Text {
     bytes: [u8; 12],
     rest: u32,

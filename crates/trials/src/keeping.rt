@@ -6,7 +6,7 @@ use network::{MAX_LINKS, MAX_NODES, Network};
 use std::num::wrapping_add_u32;
 
 // A link from a to b whose capacity changes.
-#[derive(Drop)]
+#[derive(Clone, Copy)]
 pub struct Change {
     pub a: usize,
     pub b: usize,

@@ -13,7 +13,7 @@ pub fn backward(f: i32) -> u32 {
 }
 
 // What leaves each node, what enters it, and whether every link is within its capacity.
-#[derive(Drop)]
+#[derive(Clone, Copy)]
 pub struct Balance {
     pub leaves: [u64; MAX_NODES],
     pub enters: [u64; MAX_NODES],

@@ -5,7 +5,7 @@ use network::{MAX_CAPACITY, MAX_LINKS, Network};
 use plan::{MAX_DEMAND, MAX_DEPTH, Stack};
 
 // The capacities, in the network that was opened, and the stack.
-#[derive(Drop)]
+#[derive(Clone, Copy)]
 pub struct Machine {
     pub network: Network,
     pub stack: Stack,

@@ -1,5 +1,7 @@
 // Compares the proved code with a trial of every side, on random networks and their changes. Each line counts what was
 // compared, and the disagreements.
+#![tactic(auto)]
+
 mod calls; // calls on a plan
 mod files; // network files
 mod flows; // least minimum cuts and flows

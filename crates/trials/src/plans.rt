@@ -35,7 +35,7 @@ fn most_links(v: usize) -> usize
 }
 
 // A plan on its way through calls, and the machine beside it.
-#[derive(Drop)]
+#[derive(Clone, Copy)]
 struct Run {
     state: usize,
     tally: Tally,

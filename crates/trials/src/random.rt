@@ -65,7 +65,7 @@ fn links(v: usize, last: usize, most: usize) -> usize
 }
 
 // A network, and the generator's state behind it.
-#[derive(Drop)]
+#[derive(Clone, Copy)]
 pub struct Drawn {
     pub state: usize,
     pub network: Network,

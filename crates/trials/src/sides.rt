@@ -60,7 +60,7 @@ pub fn value_at(values: &[u32; WORDS], side: u64) -> u32 {
 }
 
 // The smallest value so far, and the nodes that all sides of that value share.
-#[derive(Drop)]
+#[derive(Clone, Copy)]
 pub struct Best {
     pub value: u32,
     pub side: u64,

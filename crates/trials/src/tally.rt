@@ -2,7 +2,7 @@
 use libc::STDOUT_FILENO;
 use std::num::wrapping_add_u64;
 
-#[derive(Drop)]
+#[derive(Clone, Copy)]
 pub struct Tally {
     pub networks: u64,
     pub changes: u64,

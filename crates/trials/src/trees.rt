@@ -62,7 +62,7 @@ fn try_pairs(tally: Tally, tree: Tree, n: usize, values: &[u32; WORDS]) -> Tally
 }
 
 // A network on its way through changes, with the steps of its tree.
-#[derive(Drop)]
+#[derive(Clone, Copy)]
 struct Walk {
     state: usize,
     tally: Tally,

@@ -22,7 +22,7 @@ const SEED: usize = 4;
 
 // The headrooms of the readings accepted since the last reset, in order: how many came before those that are kept, how
 // many are kept, and these.
-#[derive(Drop)]
+#[derive(Clone, Copy)]
 struct Kept {
     before: u32,
     readings: u32,
@@ -30,7 +30,7 @@ struct Kept {
 }
 
 // A reading for s and t, whose limit is `weight`.
-#[derive(Drop)]
+#[derive(Clone, Copy)]
 struct Reading {
     s: usize,
     t: usize,
@@ -39,7 +39,7 @@ struct Reading {
 }
 
 // A record on its way through a list.
-#[derive(Drop)]
+#[derive(Clone, Copy)]
 struct Run {
     state: usize,
     tally: Tally,

@@ -64,7 +64,7 @@ groups_front : {t : List ℕ} {v size : ℕ} (k : ℕ) → Groups t v size → s
 groups_front zero (last h) b = absurd (omega arith)
 groups_front (suc k) (last h) b = last h
 groups_front zero (more h d g) b = absurd (omega arith)
-groups_front (suc k) (more h d g) b = more h d (groups_front k g (omega arith))
+groups_front (suc k) (more {t = t} h d g) b = more h d (groups_front {t = t} k g (omega arith))
 
 topped_front : (i k : ℕ) (t : List ℕ) → Topped i t → i ≤ k → Topped i (take k t)
 topped_front i k t h b =

@@ -56,10 +56,10 @@ number_up v w l = omega (arith, groups_length max_groups v, groups_up max_groups
 groups_size : {t : List ℕ} {v size : ℕ} → Groups t v size → (most : ℕ) → size ≤ most → size ≤ groups_of most v
 groups_size g zero h = omega arith
 groups_size (last {x} l) (suc most) h = rw (lt-ltb x 128 l) (omega arith)
-groups_size (more {x} {v} {size} l n g) (suc most) h =
+groups_size (more {x} {v} {size} {t} l n g) (suc most) h =
     let w = x - 128 + 128 * v in
     let high : 128 ≤ w = omega arith in
-    rw (le-ltb w 128 high) (omega (arith, groups_size g most (omega arith), groups_up most v (w / 128) (omega arith)))
+    rw (le-ltb w 128 high) (omega (arith, groups_size {t = t} g most (omega arith), groups_up most v (w / 128) (omega arith)))
 
 pub stands_up : {s : List ℕ} {place v size : ℕ} (w : ℕ) → Stands s place v size → v ≤ w → size ≤ bytes_of w
 stands_up {v = v} w st l = omega (arith, groups_size st.groups max_groups st.few, groups_up max_groups v w l)

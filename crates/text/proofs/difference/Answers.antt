@@ -1,0 +1,11 @@
+-- `text::difference` meets its contract.
+use native.Mathlib.Omega.{arith}
+use Rattle.base.specs.laws.Signed.{difference_fits, difference_is}
+use borrow.Author.Rules.{rules}
+use Rattle.text.proofs.difference.Goals as goal
+
+pub overflow_sub-result : goal.overflow_sub-result
+overflow_sub-result c = difference_fits c.args.weight c.args.demand (omega arith) (omega arith)
+
+pub returns : goal.returns
+returns c = difference_is c.args.weight c.args.demand (omega arith) (omega arith)

@@ -1,0 +1,7 @@
+-- `text::plain` meets its contract.
+use Rattle.text.specs.laws.ColumnsLaws.{plain_cast}
+use borrow.Author.Rules.{rules}
+use Rattle.text.proofs.plain.Goals as goal
+
+pub overflow_cast-result : goal.overflow_cast-result
+overflow_cast-result c = plain_cast c.args.z c.ranges.z c.requires

@@ -1,0 +1,7 @@
+-- `text::still_owes` meets its contract.
+use Rattle.text.specs.laws.ColumnsLaws.{owes_digit}
+use borrow.Author.Rules.{rules}
+use Rattle.text.proofs.still_owes.Goals as goal
+
+pub returns-else-w-eq0 : goal.returns-else-w-eq0
+returns-else-w-eq0 c = owes_digit c.args.w c.args.owed c.if-w-eq0.false
