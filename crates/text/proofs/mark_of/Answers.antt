@@ -1,7 +1,6 @@
 -- `text::mark_of` meets its contract.
 use Rattle.text.specs.code.Columns.{mark_of}
 use Rattle.text.specs.laws.ColumnsLaws.{mark_digit}
-use borrow.Author.Rules.{rules}
 use Rattle.text.proofs.mark_of.Goals as goal
 
 pub returns-then-owed : goal.returns-then-owed

@@ -1,6 +1,5 @@
 -- `text::plain` meets its contract.
 use Rattle.text.specs.laws.ColumnsLaws.{plain_cast}
-use borrow.Author.Rules.{rules}
 use Rattle.text.proofs.plain.Goals as goal
 
 pub overflow_cast-result : goal.overflow_cast-result

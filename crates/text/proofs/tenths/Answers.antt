@@ -1,6 +1,5 @@
 -- `text::tenths` meets its contract: the magnitude of an i32 is at most 2 ^ 31.
 use mathlib.Core.Path.{ap, ap₂, ◌∙◌}
-use borrow.Author.Rules.{rules}
 use lib.IntN.{nat_abs}
 use lib.Signed.{nat_abs-le}
 use mir.Facts.{to_z-of_z}

@@ -1,10 +1,10 @@
 -- `text::tenths_from` meets its contract.
 use borrow.Author.Rules.{rules}
-use Prim.Native.Nat.{ℕ, ◌≤◌, ◌-◌, ◌/◌}
+use Prim.Native.Nat.{ℕ, ◌-◌, ◌/◌}
 use mathlib.Core.Path.{◌≡◌, refl, ap, ap₂, sym, ◌∙◌}
 use mathlib.Core.Bool.{Bool}
 use mathlib.Core.List.{◌++◌}
-use lib.ListN.{length, drop, set, length-set}
+use lib.ListN.{drop, set, length-set}
 use native.Mathlib.Omega.{arith}
 use Rattle.text.specs.code.Columns.{leading, tenths_from}
 use Rattle.text.specs.laws.ColumnsLaws.{turn, lead_none}
@@ -18,8 +18,8 @@ loop-k-preserved c =
     let l = c.loop-k in (
       search rules,
       simp length-set l.invariant.1,
-      ap₂ (λ (o : Bool) (v : ℕ). leading (l.k - 1) (l.w / 10) o ++ drop (l.k - 1) (set l.out (l.k - 1) v)) c.still_owes-owed.ensures
-          c.mark_of.ensures
+      ap₂ (λ (o : Bool) (v : ℕ). leading (l.k - 1) (l.w / 10) o ++ drop (l.k - 1) (set l.out (l.k - 1) v))
+          c.still_owes-owed.ensures c.mark_of.ensures
           ∙ turn l.out l.k l.w l.owed (omega arith) (omega arith) ∙ l.invariant.2,
     )
 
