@@ -1,6 +1,6 @@
 -- The table of checks (docs/SCOPE.md, 8): rows of the table of checks, in its order. "Each is given under its condition
 -- and no other."
-use Rattle.std.specs.Prelude.{ℕ, zero, suc, ◌≡◌, refl, Bool, true, false, List, [], ◌∷◌}
+use Rattle.std.specs.Prelude.{ℕ, zero, suc, ◌≡◌, Bool, true, false, List, [], ◌∷◌}
 
 -- a row: its condition, and its number
 pub record Row : Type 0 where
@@ -30,18 +30,3 @@ pub data Given : List Row → ℕ → Type 0 where
   passed : Given [] 0
   here : {b : Bool} {n : ℕ} {rs : List Row} → b ≡ true → Given (record { when = b; number = n } ∷ rs) n
   later : {b : Bool} {n e : ℕ} {rs : List Row} → b ≡ false → Given rs e → Given (record { when = b; number = n } ∷ rs) e
-
--- the number of a table of rows is given, and no other is
-pub given : (rs : List Row) → Given rs (chain rs)
-given [] = passed
-given (r ∷ rs) = go r.when refl (given rs)
-  where
-    go : (b : Bool) → r.when ≡ b → Given rs (chain rs)
-        → Given (record { when = r.when; number = r.number } ∷ rs) (check b r.number (chain rs))
-    go true e h = here e
-    go false e h = later e h
-
-pub only : {rs : List Row} {e : ℕ} → Given rs e → chain rs ≡ e
-only passed = refl
-only (here e) = rw e
-only (later e h) = rw e (only h)

@@ -6,7 +6,5 @@ pub mod Checks
 pub mod Conditions
 -- what contracts of single functions cite
 pub mod code
+
 -- worked examples
-pub mod examples
--- lemmas
-pub mod laws

@@ -7,18 +7,11 @@ pub mod LightestEdge
 pub mod Definition1
 pub mod Answer
 -- what is shown: the rule makes a cut tree, the keep lemma, a rebuild is the rule, an answer is a minimum cut
-pub mod RuleCutTree
 pub mod KeepLemma
 pub mod Rebuilds
-pub mod AnswerMinimum
 -- and a pair's edge is one edge, the same from both ends
-pub mod SameEdge
-pub mod BothEnds
 -- and a tree's lightest edge is the network's own minimum cut
-pub mod LightestCut
 -- what contracts of the code cite
 pub mod code
+
 -- worked examples
-pub mod examples
--- lemmas
-pub mod laws

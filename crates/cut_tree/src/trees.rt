@@ -43,7 +43,7 @@ fn built(
 }
 
 // The tree of the rule on `net`, with the recorded steps that are kept. What the cuts share is made once.
-#[tactic(auto, using(network::specs::laws::NetworkLaws::nodes_le))]
+#[tactic(auto, using(network::proofs::laws::NetworkLaws::nodes_le))]
 fn worked_out(net: Network, steps: Steps, h: Change) -> Built
     requires { (network_fits net ≡ true) × OfNodes h }
     ensures { result ≡ rebuilt_by net (survived h) (h.old - h.new) steps }
@@ -82,7 +82,7 @@ fn worked_out(net: Network, steps: Steps, h: Change) -> Built
 }
 
 // The tree as link k of `net` goes to capacity d, by the recorded steps.
-#[tactic(auto, using(network::specs::laws::NetworkLaws::links_le))]
+#[tactic(auto, using(network::proofs::laws::NetworkLaws::links_le))]
 pub fn rebuild(net: Network, steps: Steps, k: usize, d: u32) -> Built
     requires { Changes net k d }
     ensures { result ≡ rebuilt net steps k d }

@@ -5,7 +5,3 @@ pub mod Made
 pub mod Lent
 -- what is shown: demand 3 of such a plan; 19 for memory that is no sound plan; the claim of such a record
 pub mod Held
-pub mod Unsound
-pub mod HeldWindow
--- worked examples
-pub mod examples

@@ -1,2 +1,8 @@
 -- what the proofs of src/lib.rt share
 pub mod Records
+-- Theorems: what holds of the definitions of specs/.
+pub mod theorems
+-- Lemmas, for the proofs. Nothing here has to be believed.
+pub mod laws
+-- Worked examples, by evaluation.
+pub mod examples

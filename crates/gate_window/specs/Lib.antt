@@ -7,9 +7,5 @@ pub mod Machine
 pub mod Claims
 -- what is shown: demand 1 of a reading, and the claim over every list
 pub mod Shows
-pub mod Numbers
-pub mod Whole
+
 -- worked examples
-pub mod examples
--- lemmas
-pub mod laws

@@ -5,10 +5,6 @@ pub mod History
 pub mod Previews
 -- what is shown: demand 3, demand 2 of an opening, that previews are as if absent, the wrong programs of the buyer's
 -- note
-pub mod Whole
-pub mod AsIfAbsent
 pub mod WrongPrograms
+
 -- worked examples: the readings, a sample run
-pub mod examples
--- lemmas
-pub mod laws

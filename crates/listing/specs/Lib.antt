@@ -2,8 +2,5 @@
 pub mod Listing
 -- what is shown: the lines of an accepted file are right; a file's front is enough
 pub mod Shown
-pub mod Front
+
 -- worked examples
-pub mod examples
--- lemmas
-pub mod laws

@@ -3,10 +3,7 @@ pub mod LeastCut
 pub mod LargestFlow
 pub mod GrowingFlow
 -- what is shown: that these answers are what their names say
-pub mod Answers
 -- what contracts of the code cite: residual capacities, search, push, sender, the augmenting loop
 pub mod code
+
 -- worked examples
-pub mod examples
--- lemmas
-pub mod laws

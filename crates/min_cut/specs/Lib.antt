@@ -3,14 +3,9 @@ pub mod Cut
 pub mod FirstWord
 pub mod Lawful
 -- what is shown: the least minimum cut, maximum flows and minimum cuts, Gusfield's step
-pub mod LeastCut
-pub mod MaxFlow
 pub mod StrongDuality
 pub mod GusfieldTree
-pub mod GusfieldStep
 -- what contracts of the code above cite: residual form, arcs
 pub mod code
+
 -- worked examples
-pub mod examples
--- lemmas
-pub mod laws

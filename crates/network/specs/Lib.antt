@@ -4,7 +4,5 @@ pub mod Refusals
 pub mod Network
 -- what contracts of the code cite: each node's own arcs
 pub mod code
+
 -- worked examples
-pub mod examples
--- lemmas
-pub mod laws

@@ -7,11 +7,6 @@ use Rattle.network_file.specs.Number.{Bytes}
 use Rattle.network_file.specs.Reading.{read_file}
 use Rattle.network_file.specs.Writing.{file_of, max_file, max_read, largest}
 use Rattle.network_file.specs.Faults.{Fault}
-use Rattle.network_file.specs.laws.FileLaws.{accepts, written_back, accepted_place, refused_network, round_trip}
-use Rattle.network_file.specs.laws.FileLaws.{file_of_injective, written_accepted}
-use Rattle.network_file.specs.laws.FaultLaws.{fault_given, fault_only, fault_number}
-use Rattle.network_file.specs.laws.FrontLaws.{read_front, accepted_length}
-use Rattle.network_file.specs.laws.LengthLaws.{file_most, file_bytes, largest_within, largest_longest}
 
 -- the file of some network within the limits
 pub record IsFile (s : List ℕ) : Type 0 where
@@ -37,21 +32,6 @@ pub record OneFile : Type 0 where
   pub longest : (net : Network) → WithinLimits net → length (file_of net) ≤ max_file
   pub reached : WithinLimits largest × (length (file_of largest) ≡ max_file)
 
-pub one_file : OneFile
-one_file =
-    record {
-      read_back = round_trip;
-      written_back = written_back;
-      accepted = λ s b. (
-        λ e. record { network = (read_file s).network; within = accepts s e; file = written_back s b e },
-        λ f. written_accepted f.network s f.within f.file,
-      );
-      one_network = file_of_injective;
-      bytes = λ net w. file_bytes net w.fits;
-      longest = λ net w. file_most net w.fits;
-      reached = (largest_within, largest_longest);
-    }
-
 pub record Refusals : Type 0 where
   -- a file is refused with the number and the place of its fault, and so it has one fault at most
   pub given : (s : List ℕ) → (read_file s).number ≢ 0 → Fault s (read_file s).number (read_file s).place
@@ -61,22 +41,9 @@ pub record Refusals : Type 0 where
   pub zeros : (s : List ℕ) → (read_file s).number ≢ 0 → (read_file s).network ≡ no_network
   pub no_place : (s : List ℕ) → (read_file s).number ≡ 0 → (read_file s).place ≡ 0
 
-pub refusals : Refusals
-refusals =
-    record {
-      given = fault_given;
-      only = fault_only;
-      numbers = λ s e place f. fault_number f;
-      zeros = refused_network;
-      no_place = accepted_place;
-    }
-
 -- "At most 1,284 bytes are read"
 pub record Front : Type 0 where
   -- the first bytes, one more than the longest file has, are read as the whole file is
   pub same : (s : List ℕ) → read_file (take max_read s) ≡ read_file s
   -- what is accepted is no longer than the longest file
   pub no_longer : (s : List ℕ) → (read_file s).number ≡ 0 → length s ≤ max_file
-
-pub front : Front
-front = record { same = read_front; no_longer = accepted_length }

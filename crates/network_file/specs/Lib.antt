@@ -7,7 +7,5 @@ pub mod Faults
 pub mod Files
 -- what contracts of the code cite
 pub mod code
+
 -- worked examples: the readings of files
-pub mod examples
--- lemmas
-pub mod laws

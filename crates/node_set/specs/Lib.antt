@@ -1,8 +1,5 @@
 -- definitions: sets of nodes as words
 pub mod Set
+
 -- what is shown: which nodes are in the set that an operation gives
-pub mod Members
 -- worked examples
-pub mod examples
--- lemmas
-pub mod laws

@@ -5,14 +5,9 @@ pub mod Lightest
 -- what is shown: demand 1, the numbers of every call and what stands beside a refusal
 pub mod Numbers
 -- and that both ends of a pair show the same edge
-pub mod BothEnds
 -- and that opening, change and undo keep the lightest tree edge true
-pub mod KeepsLightest
 -- and that a change leaves a sound plan sound
-pub mod KeepsSound
 -- what contracts of the code cite
 pub mod code
+
 -- worked examples
-pub mod examples
--- lemmas
-pub mod laws

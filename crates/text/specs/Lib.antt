@@ -2,7 +2,5 @@
 pub mod Text
 -- what contracts of the code cite: the text filled from the right
 pub mod code
+
 -- worked examples
-pub mod examples
--- lemmas
-pub mod laws

@@ -1,4 +1,2 @@
 -- definitions: what the function for timing gives
 pub mod Timing
--- lemmas
-pub mod laws

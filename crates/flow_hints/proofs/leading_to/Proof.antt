@@ -4,7 +4,7 @@ use mathlib.Core.Path.{◌≡◌}
 use native.Mathlib.Omega.{arith}
 use borrow.Author.Rules.{rules}
 use lib.Bits.{and_le_r}
-use Rattle.flow_hints.specs.laws.HintsLaws.{Gathered, gathered_none, gathered_more, gathered_all}
+use Rattle.flow_hints.proofs.laws.HintsLaws.{Gathered, gathered_none, gathered_more, gathered_all}
 use Rattle.flow_hints.proofs.leading_to.Statement.{statement}
 use Rattle.flow_hints.proofs.leading_to.Tie as tie
 

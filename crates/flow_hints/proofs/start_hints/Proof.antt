@@ -5,7 +5,7 @@ use native.Mathlib.Numerals.{add-one}
 use native.Mathlib.Omega.{arith}
 use Rattle.base.specs.Basics.{at}
 use Rattle.network.specs.Limits.{max_nodes, max_links}
-use Rattle.network.specs.laws.NetworkLaws.{link_places}
+use Rattle.network.proofs.laws.NetworkLaws.{link_places}
 use Rattle.flow_hints.specs.code.Hints.{hints_up_to}
 use Rattle.flow_hints.proofs.start_hints.Statement.{statement}
 use Rattle.flow_hints.proofs.start_hints.Tie as tie

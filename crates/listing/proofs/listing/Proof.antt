@@ -1,7 +1,7 @@
 -- `listing` meets its contract, in each of its three ways.
 use Prim.Native.Nat.{ℕ}
 use mathlib.Core.List.{List}
-use Rattle.listing.specs.laws.ListedLaws.{too_short, nodes_within, accepted_fits, accepted_listed, refused_fits, refused_listed}
+use Rattle.listing.proofs.laws.ListedLaws.{too_short, nodes_within, accepted_fits, accepted_listed, refused_fits, refused_listed}
 use borrow.Author.Rules.{rules}
 use Rattle.listing.proofs.listing.Statement.{statement}
 use Rattle.listing.proofs.listing.Tie as tie

@@ -5,7 +5,7 @@ use mathlib.Core.Path.{sym, ◌∙◌}
 use mathlib.Core.List.{List, ◌∷◌}
 use borrow.Author.Tests.{le-leb, lt-leb}
 use lib.Dec.{leb}
-use Rattle.base.specs.laws.TestLaws.{Settled, fail, pass, last, settled}
+use Rattle.base.proofs.laws.TestLaws.{Settled, fail, pass, last, settled}
 use Rattle.network.specs.Limits.{max_nodes, max_links}
 use Rattle.network.specs.Network.{network_fits}
 use Rattle.network.proofs.fits.Goals as goal

@@ -2,7 +2,7 @@
 use mathlib.Core.Path.{refl, ap}
 use mathlib.Core.Bool.{not}
 use borrow.Author.Tests.{lt-ltb, le-ltb, eq-eqb, ne_eqb}
-use Rattle.base.specs.laws.TestLaws.{fail, pass, last, settled}
+use Rattle.base.proofs.laws.TestLaws.{fail, pass, last, settled}
 use Rattle.network.proofs.link_within.Goals as goal
 
 pub returns-then-a-n : goal.returns-then-a-n

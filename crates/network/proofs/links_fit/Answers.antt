@@ -3,7 +3,7 @@ use mathlib.Core.Path.{sym, ap, ◌∙◌}
 use Prim.Native.Nat.{ℕ}
 use native.Mathlib.Omega.{arith}
 use Rattle.base.specs.Basics.{all}
-use Rattle.base.specs.laws.TestLaws.{all_none, all_more, all_fails}
+use Rattle.base.proofs.laws.TestLaws.{all_none, all_more, all_fails}
 use Rattle.network.specs.Network.{link_fits}
 use Rattle.network.proofs.links_fit.Goals as goal
 

@@ -1,6 +1,6 @@
 -- `node_set::add` meets its contract.
 use Rattle.node_set.specs.Set.{added}
-use Rattle.node_set.specs.laws.BitLaws.{one_shifted}
+use Rattle.node_set.proofs.laws.BitLaws.{one_shifted}
 use Rattle.node_set.proofs.add.Goals as goal
 
 pub returns : goal.returns

@@ -2,7 +2,7 @@
 use native.Mathlib.Omega.{arith}
 use lib.Pow.{pow_pos}
 use Rattle.node_set.specs.Set.{all_below}
-use Rattle.node_set.specs.laws.BitLaws.{one_shifted}
+use Rattle.node_set.proofs.laws.BitLaws.{one_shifted}
 use Rattle.node_set.proofs.all_below.Goals as goal
 
 pub overflow_sub-result : goal.overflow_sub-result

@@ -5,7 +5,7 @@ use lib.Count.{trailing_le}
 use mir.Syntax.{w64}
 use mir.Val.{Fits}
 use Rattle.node_set.specs.Set.{width}
-use Rattle.node_set.specs.laws.SizeLaws.{lowest_is}
+use Rattle.node_set.proofs.laws.SizeLaws.{lowest_is}
 use Rattle.node_set.proofs.lowest.Goals as goal
 
 fits : {v : ℕ} → v ≤ width → Fits w64 v

@@ -1,6 +1,6 @@
 -- `node_set::remove` meets its contract.
 use Rattle.node_set.specs.Set.{removed}
-use Rattle.node_set.specs.laws.BitLaws.{one_shifted}
+use Rattle.node_set.proofs.laws.BitLaws.{one_shifted}
 use Rattle.node_set.proofs.remove.Goals as goal
 
 pub returns : goal.returns

@@ -1,5 +1,5 @@
 -- `node_set::size` meets its contract.
-use Rattle.node_set.specs.laws.SizeLaws.{counted}
+use Rattle.node_set.proofs.laws.SizeLaws.{counted}
 use Rattle.node_set.proofs.size.Goals as goal
 
 pub returns : goal.returns

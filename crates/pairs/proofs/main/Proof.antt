@@ -5,7 +5,7 @@ use lib.ListN.{replicate, length-replicate}
 use borrow.Author.Rules.{rules}
 use Rattle.io.specs.Counts.{IsPrefixLen}
 use Rattle.listing.specs.Listing.{max_listing}
-use Rattle.listing.specs.laws.ListedLaws.{listed_counts}
+use Rattle.listing.proofs.laws.ListedLaws.{listed_counts}
 use Rattle.pairs.proofs.main.Statement.{statement}
 use Rattle.pairs.proofs.main.Tie as tie
 

@@ -5,7 +5,7 @@ use lib.ListN.{length}
 use lib.Seq.{length-sets}
 use native.Mathlib.Omega.{arith}
 use Rattle.text.specs.Text.{decimal}
-use Rattle.text.specs.laws.TextLaws.{put_one, put_more, decimal_shorter}
+use Rattle.text.proofs.laws.TextLaws.{put_one, put_more, decimal_shorter}
 use Rattle.text.proofs.+put_decimal.Goals as goal
 
 pub bounds-out-at : goal.bounds-out-at

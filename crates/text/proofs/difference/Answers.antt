@@ -1,6 +1,6 @@
 -- `text::difference` meets its contract.
 use native.Mathlib.Omega.{arith}
-use Rattle.base.specs.laws.Signed.{difference_fits, difference_is}
+use Rattle.base.proofs.laws.Signed.{difference_fits, difference_is}
 use Rattle.text.proofs.difference.Goals as goal
 
 pub overflow_sub-result : goal.overflow_sub-result

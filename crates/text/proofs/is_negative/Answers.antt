@@ -1,5 +1,5 @@
 -- `text::is_negative` meets its contract.
-use Rattle.text.specs.laws.ColumnsLaws.{below_zero}
+use Rattle.text.proofs.laws.ColumnsLaws.{below_zero}
 use Rattle.text.proofs.is_negative.Goals as goal
 
 pub returns : goal.returns

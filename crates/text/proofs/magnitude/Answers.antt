@@ -9,7 +9,7 @@ use mir.Syntax.{w32}
 use mir.Val.{to_z, of_z}
 use mir.Facts.{to_z-of_z}
 use Rattle.text.specs.code.Columns.{is_negative}
-use Rattle.text.specs.laws.ColumnsLaws.{up_fits, up_small, up_negated, mag_abs}
+use Rattle.text.proofs.laws.ColumnsLaws.{up_fits, up_small, up_negated, mag_abs}
 use Rattle.text.proofs.magnitude.Goals as goal
 use Rattle.text.proofs.magnitude.Goals.{After-negated, After-plain, Then-is_negative}
 

@@ -1,6 +1,6 @@
 -- `text::mark_of` meets its contract.
 use Rattle.text.specs.code.Columns.{mark_of}
-use Rattle.text.specs.laws.ColumnsLaws.{mark_digit}
+use Rattle.text.proofs.laws.ColumnsLaws.{mark_digit}
 use Rattle.text.proofs.mark_of.Goals as goal
 
 pub returns-then-owed : goal.returns-then-owed

@@ -1,5 +1,5 @@
 -- `text::negated` meets its contract: the negation of a number that is not the least one fits.
-use Rattle.text.specs.laws.ColumnsLaws.{neg_fits, neg_is}
+use Rattle.text.proofs.laws.ColumnsLaws.{neg_fits, neg_is}
 use Rattle.text.proofs.negated.Goals as goal
 
 pub overflow_sub-result : goal.overflow_sub-result

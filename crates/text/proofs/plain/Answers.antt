@@ -1,5 +1,5 @@
 -- `text::plain` meets its contract.
-use Rattle.text.specs.laws.ColumnsLaws.{plain_cast}
+use Rattle.text.proofs.laws.ColumnsLaws.{plain_cast}
 use Rattle.text.proofs.plain.Goals as goal
 
 pub overflow_cast-result : goal.overflow_cast-result

@@ -1,5 +1,5 @@
 -- `text::still_owes` meets its contract.
-use Rattle.text.specs.laws.ColumnsLaws.{owes_digit}
+use Rattle.text.proofs.laws.ColumnsLaws.{owes_digit}
 use Rattle.text.proofs.still_owes.Goals as goal
 
 pub returns-else-w-eq0 : goal.returns-else-w-eq0

@@ -4,7 +4,7 @@ use lib.IntN.{nat_abs}
 use lib.Signed.{nat_abs-le}
 use mir.Facts.{to_z-of_z}
 use Rattle.text.specs.code.Columns.{is_negative, tenths_from}
-use Rattle.text.specs.laws.TextLaws.{tenths_text}
+use Rattle.text.proofs.laws.TextLaws.{tenths_text}
 use Rattle.text.proofs.tenths.Goals as goal
 
 pub returns : goal.returns

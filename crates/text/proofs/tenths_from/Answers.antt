@@ -7,7 +7,7 @@ use mathlib.Core.List.{◌++◌}
 use lib.ListN.{drop, set, length-set}
 use native.Mathlib.Omega.{arith}
 use Rattle.text.specs.code.Columns.{leading, tenths_from}
-use Rattle.text.specs.laws.ColumnsLaws.{turn, lead_none}
+use Rattle.text.proofs.laws.ColumnsLaws.{turn, lead_none}
 use Rattle.text.proofs.tenths_from.Goals as goal
 
 pub loop-k-init : goal.loop-k-init

@@ -1,6 +1,6 @@
 -- `timing::pamzolit_timing` meets its contract, for a refused file and for an accepted one.
 use borrow.Author.Rules.{rules}
-use Rattle.timing.specs.laws.TimingLaws.{timed_refused, timed_accepted, timed_within}
+use Rattle.timing.proofs.laws.TimingLaws.{timed_refused, timed_accepted, timed_within}
 use Rattle.timing.proofs.pamzolit_timing.Statement.{statement}
 use Rattle.timing.proofs.pamzolit_timing.Tie as tie
 

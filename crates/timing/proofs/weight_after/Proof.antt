@@ -4,7 +4,7 @@ use Prim.Native.Nat.{◌≤◌, ◌-◌}
 use native.Mathlib.Omega.{arith}
 use borrow.Author.Rules.{rules}
 use Rattle.timing.specs.Timing.{weight_after}
-use Rattle.timing.specs.laws.TimingLaws.{weight_none, weight_more}
+use Rattle.timing.proofs.laws.TimingLaws.{weight_none, weight_more}
 use Rattle.timing.proofs.weight_after.Statement.{statement}
 use Rattle.timing.proofs.weight_after.Tie as tie
 

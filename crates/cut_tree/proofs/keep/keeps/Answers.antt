@@ -1,5 +1,5 @@
 -- A step is kept where its pivot stays and its cut survives.
-use Rattle.cut_tree.specs.laws.TakingLaws.{kept_moved, kept_stays}
+use Rattle.cut_tree.proofs.laws.TakingLaws.{kept_moved, kept_stays}
 use Rattle.cut_tree.proofs.keep.keeps.Goals as goal
 
 pub returns-then-o-t : goal.returns-then-o-t

@@ -1,5 +1,5 @@
 -- The value is less by the fall, if it falls.
-use Rattle.cut_tree.specs.laws.TakingLaws.{kept_whole, kept_less}
+use Rattle.cut_tree.proofs.laws.TakingLaws.{kept_whole, kept_less}
 use Rattle.cut_tree.proofs.keep.kept_cut.Goals as goal
 
 pub returns-then-h : goal.returns-then-h

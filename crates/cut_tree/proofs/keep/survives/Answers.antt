@@ -1,5 +1,5 @@
 -- Each return is one of the three cases, or none of them.
-use Rattle.cut_tree.specs.laws.TakingLaws.{survived_same, survived_rise, survived_fall, survived_not}
+use Rattle.cut_tree.proofs.laws.TakingLaws.{survived_same, survived_rise, survived_fall, survived_not}
 use Rattle.cut_tree.proofs.keep.survives.Goals as goal
 
 pub returns-then-h : goal.returns-then-h

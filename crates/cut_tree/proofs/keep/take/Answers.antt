@@ -1,6 +1,6 @@
 -- A kept step has room for the fall; any other cut is worked out.
 use Rattle.std.proofs.Common.{sym, ◌∙◌}
-use Rattle.cut_tree.specs.laws.TakingLaws.{kept_fits, took_kept, took_anew}
+use Rattle.cut_tree.proofs.laws.TakingLaws.{kept_fits, took_kept, took_anew}
 use Rattle.cut_tree.proofs.keep.take.Goals as goal
 
 pub kept_cut-requires : goal.kept_cut-requires

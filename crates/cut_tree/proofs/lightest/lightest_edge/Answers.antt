@@ -2,7 +2,7 @@
 use Rattle.std.proofs.Common.{◌≡◌, ℕ, ◌<◌, sym, subst, arith}
 use Rattle.cut_tree.specs.Answer.{LowestLightest}
 use Rattle.cut_tree.specs.LightestEdge.{edges_of}
-use Rattle.cut_tree.specs.laws.EdgeLaws.{edge_none, edge_unique, lowest_first, lowest_next, lowest_still}
+use Rattle.cut_tree.proofs.laws.EdgeLaws.{edge_none, edge_unique, lowest_first, lowest_next, lowest_still}
 use Rattle.cut_tree.proofs.lightest.lightest_edge.Goals as goal
 use Rattle.cut_tree.proofs.lightest.lightest_edge.Goals.{then-weight-i, else-weight-i}
 

@@ -1,6 +1,6 @@
 -- Each return is a way through `climb`; the count that is left falls.
-use Rattle.cut_tree.specs.laws.ClimbLaws.{climb_end, climb_none, climb_on}
-use Rattle.cut_tree.specs.laws.QueryLaws.{added_none, added_on}
+use Rattle.cut_tree.proofs.laws.ClimbLaws.{climb_end, climb_none, climb_on}
+use Rattle.cut_tree.proofs.laws.QueryLaws.{added_none, added_on}
 use Rattle.cut_tree.proofs.path.+ancestors.Goals as goal
 
 pub returns-then-i-eq0 : goal.returns-then-i-eq0

@@ -1,6 +1,6 @@
 -- Each return is a way through the climb from j; the count that is left falls.
 use Rattle.std.proofs.Common.{sym, ◌∙◌, arith}
-use Rattle.cut_tree.specs.laws.SideLaws.{through_end, through_here, through_known, through_none, through_on, known_next}
+use Rattle.cut_tree.proofs.laws.SideLaws.{through_end, through_here, through_known, through_none, through_on, known_next}
 use Rattle.cut_tree.proofs.path.+climbs_through.Goals as goal
 
 pub returns-then-j-eq0 : goal.returns-then-j-eq0

@@ -1,9 +1,9 @@
 -- Each return is a way through `climb_to`; the count that is left falls.
 use Rattle.std.proofs.Common.{sym, ◌∙◌, arith}
 use Rattle.network.specs.Limits.{max_nodes}
-use Rattle.cut_tree.specs.laws.ClimbLaws.{inside_lt, inside_next}
-use Rattle.cut_tree.specs.laws.ClimbLaws.{climb_to_end, climb_to_none, climb_to_stop, climb_to_on}
-use Rattle.cut_tree.specs.laws.QueryLaws.{up_none, up_on, lighter_below}
+use Rattle.cut_tree.proofs.laws.ClimbLaws.{inside_lt, inside_next}
+use Rattle.cut_tree.proofs.laws.ClimbLaws.{climb_to_end, climb_to_none, climb_to_stop, climb_to_on}
+use Rattle.cut_tree.proofs.laws.QueryLaws.{up_none, up_on, lighter_below}
 use Rattle.cut_tree.proofs.path.+lightest_up.Goals as goal
 
 pub returns-then-i-eq0 : goal.returns-then-i-eq0

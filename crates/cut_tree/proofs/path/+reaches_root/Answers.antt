@@ -1,6 +1,6 @@
 -- Each return is a way through `reaches`; the count that is left falls.
 use Rattle.std.proofs.Common.{sym, ◌∙◌}
-use Rattle.cut_tree.specs.laws.ClimbLaws.{reaches_end, reaches_none, reaches_on}
+use Rattle.cut_tree.proofs.laws.ClimbLaws.{reaches_end, reaches_none, reaches_on}
 use Rattle.cut_tree.proofs.path.+reaches_root.Goals as goal
 
 pub returns-then-i-eq0 : goal.returns-then-i-eq0

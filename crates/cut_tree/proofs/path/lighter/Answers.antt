@@ -1,5 +1,5 @@
 -- Each return is a way through `lighter`.
-use Rattle.cut_tree.specs.laws.QueryLaws.{lighter_none, lighter_less, lighter_more, lighter_lower, lighter_same}
+use Rattle.cut_tree.proofs.laws.QueryLaws.{lighter_none, lighter_less, lighter_more, lighter_lower, lighter_same}
 use Rattle.cut_tree.proofs.path.lighter.Goals as goal
 
 pub returns-then-best-eq0 : goal.returns-then-best-eq0

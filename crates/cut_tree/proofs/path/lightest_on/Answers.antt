@@ -1,8 +1,8 @@
 -- The climb from s, then the climb from t: together the edges of the path.
 use Rattle.std.proofs.Common.{arith}
 use Rattle.cut_tree.specs.Path.{max_climb}
-use Rattle.cut_tree.specs.laws.ClimbLaws.{climbs_inside}
-use Rattle.cut_tree.specs.laws.QueryLaws.{lightest_on_lem, up_below}
+use Rattle.cut_tree.proofs.laws.ClimbLaws.{climbs_inside}
+use Rattle.cut_tree.proofs.laws.QueryLaws.{lightest_on_lem, up_below}
 use Rattle.cut_tree.proofs.path.lightest_on.Goals as goal
 
 pub lightest_up-requires : goal.lightest_up-requires

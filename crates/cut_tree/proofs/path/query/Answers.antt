@@ -2,8 +2,8 @@
 use Rattle.std.proofs.Common.{◌≡◌, ◌≢◌, ℕ, ◌<◌, arith}
 use Rattle.network.specs.Limits.{max_nodes}
 use Rattle.cut_tree.specs.Path.{lightest_on}
-use Rattle.cut_tree.specs.laws.QueryLaws.{query_nodes, query_refused, answered}
-use Rattle.cut_tree.specs.laws.PathLaws.{lightest_node}
+use Rattle.cut_tree.proofs.laws.QueryLaws.{query_nodes, query_refused, answered}
+use Rattle.cut_tree.proofs.laws.PathLaws.{lightest_node}
 use Rattle.cut_tree.proofs.path.query.Goals as goal
 use Rattle.cut_tree.proofs.path.query.Goals.{Else-number-ne0}
 

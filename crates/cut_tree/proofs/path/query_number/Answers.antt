@@ -1,7 +1,8 @@
 -- `cut_tree::path::query_number` meets its contract: one row of the table at each return.
 use Rattle.std.proofs.Common.{[], sym, eq-eqb, ne_eqb}
-use Rattle.base.specs.Checks.{Given, passed, here, later, only}
-use Rattle.base.specs.laws.ChecksLaws.{both_below, first_outside, other_outside}
+use Rattle.base.specs.Checks.{Given, passed, here, later}
+use Rattle.base.proofs.theorems.Checks.{only}
+use Rattle.base.proofs.laws.ChecksLaws.{both_below, first_outside, other_outside}
 use Rattle.cut_tree.specs.Path.{pair_rows}
 use Rattle.cut_tree.proofs.path.query_number.Goals as goal
 

@@ -1,8 +1,8 @@
 -- The subtree of v where s is in it, else its complement.
 use Rattle.std.proofs.Common.{sym, ◌∙◌, arith}
-use Rattle.base.specs.laws.WordLaws.{word_lt}
+use Rattle.base.proofs.laws.WordLaws.{word_lt}
 use Rattle.cut_tree.specs.Path.{under}
-use Rattle.cut_tree.specs.laws.SideLaws.{side_with, side_without}
+use Rattle.cut_tree.proofs.laws.SideLaws.{side_with, side_without}
 use Rattle.cut_tree.proofs.path.side_of.Goals as goal
 
 pub returns-then-contains : goal.returns-then-contains

@@ -1,6 +1,6 @@
 -- The loop has the subtree of v among the nodes before i.
 use Rattle.std.proofs.Common.{◌∙◌, arith}
-use Rattle.cut_tree.specs.laws.SideLaws.{pass_start, pass_known, pass_next, pass_end}
+use Rattle.cut_tree.proofs.laws.SideLaws.{pass_start, pass_known, pass_next, pass_end}
 use Rattle.cut_tree.proofs.path.subtree.Goals as goal
 
 pub loop-i-init : goal.loop-i-init

@@ -1,5 +1,5 @@
 -- A node is added where its climb goes through v.
-use Rattle.cut_tree.specs.laws.SideLaws.{added_so, added_not}
+use Rattle.cut_tree.proofs.laws.SideLaws.{added_so, added_not}
 use Rattle.cut_tree.proofs.path.with_node.Goals as goal
 
 pub returns-then-climbs_through : goal.returns-then-climbs_through

@@ -1,7 +1,7 @@
 -- The nodes still to go, moved, give what all of them give; each turn takes the lowest out.
 use Rattle.std.proofs.Common.{refl, arith}
-use Rattle.node_set.specs.Members.{removed_less}
-use Rattle.cut_tree.specs.laws.StepLaws.{moving_next, moving_end}
+use Rattle.node_set.proofs.theorems.Members.{removed_less}
+use Rattle.cut_tree.proofs.laws.StepLaws.{moving_next, moving_end}
 use Rattle.cut_tree.proofs.rule.move_nodes.Goals as goal
 
 pub loop-rest-init : goal.loop-rest-init

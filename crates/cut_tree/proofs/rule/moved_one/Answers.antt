@@ -1,5 +1,5 @@
 -- Each return is one of the two cases.
-use Rattle.cut_tree.specs.laws.StepLaws.{moved_t, moved_not}
+use Rattle.cut_tree.proofs.laws.StepLaws.{moved_t, moved_not}
 use Rattle.cut_tree.proofs.rule.moved_one.Goals as goal
 
 pub returns-then-p-t : goal.returns-then-p-t

@@ -1,5 +1,5 @@
 -- Each return is one of the two ways to place s.
-use Rattle.cut_tree.specs.laws.StepLaws.{parents_between, parents_beside, weights_between, weights_beside}
+use Rattle.cut_tree.proofs.laws.StepLaws.{parents_between, parents_beside, weights_between, weights_beside}
 use Rattle.cut_tree.proofs.rule.place.Goals as goal
 
 pub returns-then-contains : goal.returns-then-contains

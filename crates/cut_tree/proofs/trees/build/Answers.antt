@@ -1,8 +1,8 @@
 -- No pivot is a node, so no step is kept.
 use Rattle.std.proofs.Common.{ℕ, ◌∙◌, arith}
 use Rattle.std.proofs.lemmas.List.{get_or-replicate}
-use Rattle.network.specs.laws.NetworkLaws.{nodes_le}
-use Rattle.cut_tree.specs.Rebuilds.{built_anew}
+use Rattle.network.proofs.laws.NetworkLaws.{nodes_le}
+use Rattle.cut_tree.proofs.theorems.Rebuilds.{built_anew}
 use Rattle.cut_tree.proofs.trees.build.Goals as goal
 
 pub returns : goal.returns

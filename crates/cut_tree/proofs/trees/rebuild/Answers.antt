@@ -1,7 +1,7 @@
 -- The changed network is within the limits, and the tree worked out on it is the rebuilt one.
 use Rattle.std.proofs.Common.{◌∙◌, arith}
-use Rattle.network.specs.laws.NetworkLaws.{nodes_le, ends_within, change_fits}
-use Rattle.cut_tree.specs.laws.LoopLaws.{rebuilt_is}
+use Rattle.network.proofs.laws.NetworkLaws.{nodes_le, ends_within, change_fits}
+use Rattle.cut_tree.proofs.laws.LoopLaws.{rebuilt_is}
 use Rattle.cut_tree.proofs.trees.rebuild.Goals as goal
 
 pub worked_out-requires : goal.worked_out-requires

@@ -1,14 +1,14 @@
 -- `worked_out` meets its contract: the loop has steps 1 to s - 1.
 use Rattle.std.proofs.Common.{◌≡◌, ℕ, ◌-◌, ◌<◌, get_or, refl, ◌∙◌, arith}
 use Rattle.network.specs.Limits.{max_nodes}
-use Rattle.network.specs.laws.NetworkLaws.{nodes_le}
+use Rattle.network.proofs.laws.NetworkLaws.{nodes_le}
 use Rattle.network.specs.declared.incidence.Incidence.{Incidence}
 use Rattle.max_flow.specs.code.Search.{Ready}
 use Rattle.cut_tree.specs.declared.StepCut.{StepCut}
 use Rattle.cut_tree.specs.Rebuild.{kept_or_least_by}
 use Rattle.cut_tree.specs.code.RebuildParts.{survived, step_of, taken}
-use Rattle.cut_tree.specs.laws.StepLaws.{stepped_by}
-use Rattle.cut_tree.specs.laws.LoopLaws.{going_start, going_parent, going_count, going_next, going_end, taken_is}
+use Rattle.cut_tree.proofs.laws.StepLaws.{stepped_by}
+use Rattle.cut_tree.proofs.laws.LoopLaws.{going_start, going_parent, going_count, going_next, going_end, taken_is}
 use Rattle.cut_tree.proofs.trees.worked_out.Goals as goal
 use Rattle.cut_tree.proofs.trees.worked_out.Goals.{In-loop-s}
 

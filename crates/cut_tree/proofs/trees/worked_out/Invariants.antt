@@ -1,7 +1,7 @@
 -- The loop has steps 1 to s - 1.
 use Rattle.std.proofs.Common.{◌-◌}
 use Rattle.cut_tree.specs.code.RebuildParts.{built_of, survived}
-use Rattle.cut_tree.specs.laws.LoopLaws.{Going}
+use Rattle.cut_tree.proofs.laws.LoopLaws.{Going}
 use Rattle.cut_tree.proofs.trees.worked_out.Given as goal
 
 abbrev pub invariant-loop-s : goal.invariant-loop-s

@@ -2,7 +2,7 @@
 use mathlib.Core.Path.{◌≡◌}
 use borrow.Author.Rules.{rules}
 use lib.ListN.{length}
-use Rattle.gate_window.specs.laws.ShownLaws.{four_last}
+use Rattle.gate_window.proofs.laws.ShownLaws.{four_last}
 use Rattle.gate_window.proofs.shown.last_four.Statement.{statement}
 use Rattle.gate_window.proofs.shown.last_four.Tie as tie
 

@@ -4,7 +4,7 @@ use borrow.Author.Rules.{rules}
 use lib.ListN.{drop}
 use mir.Facts.{to_z-of_z}
 use Rattle.text.specs.Text.{text_of}
-use Rattle.gate_window.specs.laws.ShownLaws.{shown_low, shown_high, shown_number}
+use Rattle.gate_window.proofs.laws.ShownLaws.{shown_low, shown_high, shown_number}
 use Rattle.gate_window.proofs.shown.window_text.Statement.{statement}
 use Rattle.gate_window.proofs.shown.window_text.Tie as tie
 

@@ -3,7 +3,7 @@ use mathlib.Core.Path.{ap, ◌∙◌}
 use borrow.Author.Rules.{rules}
 use mir.Facts.{to_z-of_z}
 use Rattle.gate_window.specs.Reading.{read}
-use Rattle.gate_window.specs.laws.ReadingLaws.{not_read_lem, full, is_read}
+use Rattle.gate_window.proofs.laws.ReadingLaws.{not_read_lem, full, is_read}
 use Rattle.gate_window.proofs.tally.after_reading.Statement.{statement}
 use Rattle.gate_window.proofs.tally.after_reading.Tie as tie
 

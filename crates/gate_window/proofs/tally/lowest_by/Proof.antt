@@ -1,5 +1,5 @@
 -- `gate_window::tally::lowest_by` meets its contract: one law for each way through it.
-use Rattle.gate_window.specs.laws.ReadingLaws.{lowest_first, lowest_less, lowest_stays}
+use Rattle.gate_window.proofs.laws.ReadingLaws.{lowest_first, lowest_less, lowest_stays}
 use Rattle.gate_window.proofs.tally.lowest_by.Statement.{statement}
 use Rattle.gate_window.proofs.tally.lowest_by.Tie as tie
 

@@ -1,6 +1,6 @@
 -- `gate_window::tally::noted` meets its contract. A signed number that is handed on is read back from its bits.
 use borrow.Author.Rules.{rules}
-use Rattle.gate_window.specs.laws.ReadingLaws.{noted_is}
+use Rattle.gate_window.proofs.laws.ReadingLaws.{noted_is}
 use Rattle.gate_window.proofs.tally.noted.Statement.{statement}
 use Rattle.gate_window.proofs.tally.noted.Tie as tie
 

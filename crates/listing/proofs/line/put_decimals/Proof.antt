@@ -6,8 +6,8 @@ use lib.ListN.{length, drop, length-set}
 use Rattle.base.specs.Basics.{at}
 use Rattle.text.specs.Text.{decimal}
 use Rattle.listing.specs.Listing.{decimals_of}
-use Rattle.base.specs.laws.PutsLaws.{Owing, owing_all}
-use Rattle.listing.specs.laws.LineLaws.{next_number_fits, number_more, line_feed_fits, numbers_end}
+use Rattle.base.proofs.laws.PutsLaws.{Owing, owing_all}
+use Rattle.listing.proofs.laws.LineLaws.{next_number_fits, number_more, line_feed_fits, numbers_end}
 use Rattle.listing.proofs.line.put_decimals.Statement.{statement}
 use Rattle.listing.proofs.line.put_decimals.Tie as tie
 

@@ -2,7 +2,7 @@
 use native.Mathlib.Omega.{arith}
 use lib.ListN.{length-append}
 use Rattle.listing.specs.Listing.{decimals_of}
-use Rattle.base.specs.laws.PutsLaws.{puts_length, puts_then}
+use Rattle.base.proofs.laws.PutsLaws.{puts_length, puts_then}
 use borrow.Author.Rules.{rules}
 use Rattle.listing.proofs.line.put_line.Statement.{statement}
 use Rattle.listing.proofs.line.put_line.Tie as tie

@@ -2,8 +2,8 @@
 use Prim.Native.Nat.{◌-◌, ◌≤◌}
 use native.Mathlib.Omega.{arith}
 use lib.ListN.{length, drop}
-use Rattle.base.specs.laws.PutsLaws.{Owing, owing_all}
-use Rattle.listing.specs.laws.LineLaws.{word_fits, word_more, word_end}
+use Rattle.base.proofs.laws.PutsLaws.{Owing, owing_all}
+use Rattle.listing.proofs.laws.LineLaws.{word_fits, word_more, word_end}
 use Rattle.listing.proofs.line.put_word.Statement.{statement}
 use Rattle.listing.proofs.line.put_word.Tie as tie
 

@@ -4,8 +4,8 @@ use mathlib.Core.List.{[], ◌∷◌}
 use native.Mathlib.Omega.{arith}
 use lib.ListN.{length}
 use Rattle.listing.specs.Listing.{pair_word, line_of, pair_line}
-use Rattle.base.specs.laws.PutsLaws.{puts_same}
-use Rattle.listing.specs.laws.LinesLaws.{pair_is}
+use Rattle.base.proofs.laws.PutsLaws.{puts_same}
+use Rattle.listing.proofs.laws.LinesLaws.{pair_is}
 use borrow.Author.Rules.{rules}
 use Rattle.listing.proofs.lines.pair_line.Statement.{statement}
 use Rattle.listing.proofs.lines.pair_line.Tie as tie

@@ -3,8 +3,8 @@ use Prim.Native.Nat.{◌-◌, ◌≤◌}
 use native.Mathlib.Omega.{arith}
 use Rattle.listing.specs.Listing.{pair_lines}
 use Rattle.base.specs.code.Puts.{Puts}
-use Rattle.base.specs.laws.PutsLaws.{puts_length}
-use Rattle.listing.specs.laws.LinesLaws.{lines_none, lines_fits, lines_more, lines_end}
+use Rattle.base.proofs.laws.PutsLaws.{puts_length}
+use Rattle.listing.proofs.laws.LinesLaws.{lines_none, lines_fits, lines_more, lines_end}
 use Rattle.listing.proofs.lines.pair_lines.Statement.{statement}
 use Rattle.listing.proofs.lines.pair_lines.Tie as tie
 

@@ -3,8 +3,8 @@ use Prim.Native.Nat.{suc, ◌-◌, ◌<◌, ◌≤◌}
 use native.Mathlib.Omega.{arith}
 use Rattle.listing.specs.Listing.{pairs_of}
 use Rattle.base.specs.code.Puts.{Puts}
-use Rattle.base.specs.laws.PutsLaws.{puts_length}
-use Rattle.listing.specs.laws.LinesLaws.{pairs_none, pairs_fits, pairs_more, pairs_end}
+use Rattle.base.proofs.laws.PutsLaws.{puts_length}
+use Rattle.listing.proofs.laws.LinesLaws.{pairs_none, pairs_fits, pairs_more, pairs_end}
 use Rattle.listing.proofs.lines.pairs_of.Statement.{statement}
 use Rattle.listing.proofs.lines.pairs_of.Tie as tie
 

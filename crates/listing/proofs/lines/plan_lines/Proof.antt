@@ -1,7 +1,7 @@
 -- `plan_lines` meets its contract: the tree, then the pairs.
 use native.Mathlib.Omega.{arith}
-use Rattle.base.specs.laws.PutsLaws.{puts_length}
-use Rattle.listing.specs.laws.LinesLaws.{plan_length, plan_puts}
+use Rattle.base.proofs.laws.PutsLaws.{puts_length}
+use Rattle.listing.proofs.laws.LinesLaws.{plan_length, plan_puts}
 use borrow.Author.Rules.{rules}
 use Rattle.listing.proofs.lines.plan_lines.Statement.{statement}
 use Rattle.listing.proofs.lines.plan_lines.Tie as tie

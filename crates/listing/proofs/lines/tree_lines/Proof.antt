@@ -3,8 +3,8 @@ use Prim.Native.Nat.{◌-◌, ◌≤◌}
 use native.Mathlib.Omega.{arith}
 use Rattle.listing.specs.Listing.{tree_lines}
 use Rattle.base.specs.code.Puts.{Puts}
-use Rattle.base.specs.laws.PutsLaws.{puts_length}
-use Rattle.listing.specs.laws.LinesLaws.{tree_none, tree_fits_lem, tree_more, tree_end}
+use Rattle.base.proofs.laws.PutsLaws.{puts_length}
+use Rattle.listing.proofs.laws.LinesLaws.{tree_none, tree_fits_lem, tree_more, tree_end}
 use Rattle.listing.proofs.lines.tree_lines.Statement.{statement}
 use Rattle.listing.proofs.lines.tree_lines.Tie as tie
 

@@ -9,12 +9,13 @@ use borrow.Author.Tests.{not-true, not-false}
 use Rattle.base.specs.Basics.{at}
 use Rattle.network.specs.Limits.{max_nodes, max_value}
 use Rattle.network.specs.declared.Network.{Network}
-use Rattle.max_flow.specs.code.LinkFlows.{moderate}
+use Rattle.max_flow.proofs.code.LinkFlows.{moderate}
 use Rattle.max_flow.specs.code.Residuals.{full_residual, Flowing}
 use Rattle.max_flow.specs.code.Search.{Ready}
-use Rattle.max_flow.specs.code.Augment.{Growth, grows, sending, at_end_lem, ends_lt, last_lt}
-use Rattle.max_flow.specs.code.Send.{ready_consistent}
-use Rattle.max_flow.specs.laws.GrowthLaws.{flow_start}
+use Rattle.max_flow.specs.code.Augment.{Growth}
+use Rattle.max_flow.proofs.code.Augment.{grows, sending, at_end_lem, ends_lt, last_lt}
+use Rattle.max_flow.proofs.code.Send.{ready_consistent}
+use Rattle.max_flow.proofs.laws.GrowthLaws.{flow_start}
 use Rattle.max_flow.specs.declared.search.SearchTree.{SearchTree}
 use Rattle.max_flow.proofs.augment.augment.Statement.{statement}
 use Rattle.max_flow.proofs.augment.augment.Tie as tie

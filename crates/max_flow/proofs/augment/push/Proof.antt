@@ -4,7 +4,8 @@ use native.Mathlib.Omega.{arith}
 use lib.Dec.{lit<}
 use borrow.Author.Rules.{Fits-under, scaled_Fits}
 use Rattle.network.specs.declared.Network.{Network}
-use Rattle.max_flow.specs.code.Push.{Sending, Half, OnPath, half_start, half_next, half_end, is_on_path}
+use Rattle.max_flow.specs.code.Push.{Sending, Half, OnPath}
+use Rattle.max_flow.proofs.code.Push.{half_start, half_next, half_end, is_on_path}
 use Rattle.max_flow.proofs.augment.push.Statement.{statement}
 use Rattle.max_flow.proofs.augment.push.Tie as tie
 

@@ -1,6 +1,6 @@
 -- `carried` gives the difference of two numbers that fit 31 bits.
 use borrow.Author.Rules.{rules}
-use Rattle.base.specs.laws.Signed.{difference_fits, difference_is}
+use Rattle.base.proofs.laws.Signed.{difference_fits, difference_is}
 use Rattle.max_flow.proofs.flows.carried.Statement.{statement}
 use Rattle.max_flow.proofs.flows.carried.Tie as tie
 

@@ -12,7 +12,8 @@ use mir.Facts.{to_z-of_z}
 use mir.Syntax.{w32}
 use Rattle.network.specs.Limits.{max_links, max_capacity}
 use Rattle.max_flow.specs.GrowingFlow.{ahead, back}
-use Rattle.max_flow.specs.code.LinkFlows.{link_flows_up_to, flows_long}
+use Rattle.max_flow.specs.code.LinkFlows.{link_flows_up_to}
+use Rattle.max_flow.proofs.code.LinkFlows.{flows_long}
 use Rattle.max_flow.proofs.flows.write_flow.Statement.{statement}
 use Rattle.max_flow.proofs.flows.write_flow.Tie as tie
 

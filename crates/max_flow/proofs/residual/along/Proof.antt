@@ -1,6 +1,6 @@
 -- `along` changes one row.
 use native.Mathlib.Omega.{arith}
-use Rattle.max_flow.specs.laws.ResidualLaws.{arc_lt, along_fits}
+use Rattle.max_flow.proofs.laws.ResidualLaws.{arc_lt, along_fits}
 use borrow.Author.Rules.{rules}
 use Rattle.max_flow.proofs.residual.along.Statement.{statement}
 use Rattle.max_flow.proofs.residual.along.Tie as tie

@@ -5,7 +5,7 @@ use borrow.Author.Rules.{rules}
 use mathlib.Core.Path.{◌≡◌}
 use native.Mathlib.Numerals.{add-one}
 use Rattle.network.specs.Limits.{max_links}
-use Rattle.network.specs.laws.NetworkLaws.{links_le}
+use Rattle.network.proofs.laws.NetworkLaws.{links_le}
 use Rattle.max_flow.specs.code.Residuals.{full_up_to}
 use Rattle.max_flow.proofs.residual.full_residual.Statement.{statement}
 use Rattle.max_flow.proofs.residual.full_residual.Tie as tie

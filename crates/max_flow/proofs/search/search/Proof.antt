@@ -12,9 +12,10 @@ use Rattle.base.specs.Basics.{at}
 use Rattle.network.specs.Limits.{max_nodes}
 use Rattle.network.specs.declared.Network.{Network}
 use Rattle.max_flow.specs.code.Search.{Ready, grown_by}
-use Rattle.max_flow.specs.code.Scan.{Outer, Inner, Placed, Looking, Fresh, outer_start, outer_end, outer_next, placed}
-use Rattle.max_flow.specs.code.Scan.{inner_start, looking, next_full, next_held, next_new, hit_new}
-use Rattle.max_flow.specs.code.Augment.{ends_lt}
+use Rattle.max_flow.specs.code.Scan.{Outer, Inner, Placed, Looking, Fresh}
+use Rattle.max_flow.proofs.code.Scan.{outer_start, outer_end, outer_next, placed}
+use Rattle.max_flow.proofs.code.Scan.{inner_start, looking, next_full, next_held, next_new, hit_new}
+use Rattle.max_flow.proofs.code.Augment.{ends_lt}
 use Rattle.max_flow.specs.declared.search.SearchTree.{SearchTree}
 use Rattle.max_flow.proofs.search.search.Statement.{statement}
 use Rattle.max_flow.proofs.search.search.Tie as tie

@@ -5,7 +5,8 @@ use native.Mathlib.Omega.{arith}
 use borrow.Author.Rules.{rules}
 use Rattle.network.specs.Limits.{max_arcs}
 use Rattle.network.specs.declared.Network.{Network}
-use Rattle.max_flow.specs.code.Send.{Consistent, Sends, consistent_next, send_there, send_none, send_more, send_along, send_way}
+use Rattle.max_flow.specs.code.Send.{Consistent, Sends}
+use Rattle.max_flow.proofs.code.Send.{consistent_next, send_there, send_none, send_more, send_along, send_way}
 use borrow.Fn.Kinds.{In}
 use borrow.Fn.PlainCycle.{Measures, is, falls, and}
 use Rattle.max_flow.proofs.send.send.Reads as send

@@ -2,8 +2,8 @@
 use mathlib.Core.Path.{sym, ap, ◌∙◌}
 use native.Mathlib.Omega.{arith}
 use Rattle.base.specs.Basics.{at}
-use Rattle.max_flow.specs.laws.ResidualLaws.{spare_read}
-use Rattle.max_flow.specs.code.Send.{other_lt, way}
+use Rattle.max_flow.proofs.laws.ResidualLaws.{spare_read}
+use Rattle.max_flow.proofs.code.Send.{other_lt, way}
 use borrow.Author.Rules.{rules}
 use Rattle.max_flow.proofs.send.allowed.Statement.{statement}
 use Rattle.max_flow.proofs.send.allowed.Tie as tie

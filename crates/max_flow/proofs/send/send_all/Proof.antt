@@ -3,10 +3,11 @@ use Prim.Native.Nat.{◌+◌, ◌-◌, ◌≤◌}
 use native.Mathlib.Omega.{arith}
 use Rattle.network.specs.Limits.{max_nodes}
 use Rattle.network.specs.declared.Network.{Network}
-use Rattle.max_flow.specs.code.Augment.{ends_lt, flow_le}
+use Rattle.max_flow.proofs.code.Augment.{ends_lt, flow_le}
 use Rattle.max_flow.specs.code.Residuals.{Flowing}
-use Rattle.max_flow.specs.code.Send.{Consistent, consistent_flow}
-use Rattle.max_flow.specs.laws.GrowthLaws.{flow_raised}
+use Rattle.max_flow.specs.code.Send.{Consistent}
+use Rattle.max_flow.proofs.code.Send.{consistent_flow}
+use Rattle.max_flow.proofs.laws.GrowthLaws.{flow_raised}
 use Rattle.max_flow.proofs.send.send_all.Statement.{statement}
 use Rattle.max_flow.proofs.send.send_all.Tie as tie
 

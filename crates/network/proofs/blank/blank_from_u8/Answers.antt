@@ -1,7 +1,7 @@
 -- `network::blank::blank_from_u8` meets its contract.
 -- The loop's invariant: the places from i on are 0 just if those from n on are.
 use mathlib.Core.Path.{refl, sym, ◌∙◌}
-use Rattle.base.specs.laws.BlankLaws.{blank_end, blank_more, blank_fails}
+use Rattle.base.proofs.laws.BlankLaws.{blank_end, blank_more, blank_fails}
 use Rattle.network.proofs.blank.blank_from_u8.Goals as goal
 
 pub loop-i-init : goal.loop-i-init

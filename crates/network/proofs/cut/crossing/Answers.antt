@@ -1,5 +1,5 @@
 -- `network::cut::crossing` meets its contract: one way of the test at each return.
-use Rattle.network.specs.laws.NetworkLaws.{crossing_none, crossing_all}
+use Rattle.network.proofs.laws.NetworkLaws.{crossing_none, crossing_all}
 use Rattle.network.proofs.cut.crossing.Goals as goal
 
 pub returns-then-contains : goal.returns-then-contains

@@ -4,8 +4,8 @@ use mathlib.Core.Path.{◌≡◌, sym, ap, ◌∙◌}
 use Prim.Native.Nat.{◌+◌}
 use native.Mathlib.Omega.{arith}
 use Rattle.base.specs.Word.{holds}
-use Rattle.network.specs.laws.NetworkLaws.{link_places, value_before, value_none, value_more, value_all}
-use Rattle.network.specs.laws.NetworkLaws.{value_before_le}
+use Rattle.network.proofs.laws.NetworkLaws.{link_places, value_before, value_none, value_more, value_all}
+use Rattle.network.proofs.laws.NetworkLaws.{value_before_le}
 use Rattle.network.proofs.cut.cut_value.Goals as goal
 use Rattle.network.proofs.cut.cut_value.Goals.{After-crossing-value}
 

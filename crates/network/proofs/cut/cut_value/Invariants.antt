@@ -3,7 +3,7 @@
 use mathlib.Core.Path.{◌≡◌}
 use Prim.Native.Nat.{◌≤◌, ◌-◌}
 use Rattle.base.specs.Word.{holds}
-use Rattle.network.specs.laws.NetworkLaws.{value_before}
+use Rattle.network.proofs.laws.NetworkLaws.{value_before}
 use Rattle.network.proofs.cut.cut_value.Given as goal
 
 abbrev pub invariant-loop-k : goal.invariant-loop-k

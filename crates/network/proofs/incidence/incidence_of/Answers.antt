@@ -5,8 +5,8 @@ use Prim.Native.Nat.{◌<◌}
 use native.Mathlib.Omega.{arith}
 use Rattle.base.specs.Basics.{at}
 use Rattle.network.specs.Limits.{max_nodes, max_links}
-use Rattle.network.specs.laws.NetworkLaws.{link_places}
-use Rattle.network.specs.laws.IncidenceLaws.{built_none, built_link}
+use Rattle.network.proofs.laws.NetworkLaws.{link_places}
+use Rattle.network.proofs.laws.IncidenceLaws.{built_none, built_link}
 use Rattle.network.proofs.incidence.incidence_of.Goals as goal
 use Rattle.network.proofs.incidence.incidence_of.Goals.{In-loop-k}
 

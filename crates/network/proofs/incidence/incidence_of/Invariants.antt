@@ -1,7 +1,7 @@
 -- `network::incidence_of` meets its contract.
 -- The loop's invariant: the chains of the arcs of the links before k are built.
 use Prim.Native.Nat.{◌≤◌, ◌-◌, ◌*◌}
-use Rattle.network.specs.laws.IncidenceLaws.{Built}
+use Rattle.network.proofs.laws.IncidenceLaws.{Built}
 use Rattle.network.proofs.incidence.incidence_of.Given as goal
 
 abbrev pub invariant-loop-k : goal.invariant-loop-k

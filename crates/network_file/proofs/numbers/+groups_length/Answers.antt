@@ -1,7 +1,7 @@
 -- `groups_length` meets its contract.
 use Rattle.std.proofs.Common.{ap, arith, length, ◌-◌, ◌/◌}
-use Rattle.network_file.specs.laws.NumberSteps.{no_groups, one_group, some_groups}
-use Rattle.network_file.specs.laws.LengthLaws.{groups_most}
+use Rattle.network_file.proofs.laws.NumberSteps.{no_groups, one_group, some_groups}
+use Rattle.network_file.proofs.laws.LengthLaws.{groups_most}
 use Rattle.network_file.proofs.numbers.+groups_length.Goals as goal
 
 pub returns-then-left-eq0 : goal.returns-then-left-eq0

@@ -2,7 +2,7 @@
 use Rattle.std.proofs.Common.{sym, ap, subst, ◌∙◌, arith, ◌-◌}
 use Rattle.network.specs.Limits.{max_groups}
 use Rattle.network_file.specs.Number.{continued}
-use Rattle.network_file.specs.laws.NumberSteps.{at_most_none, at_nothing, at_last, at_more, Small, rest_small}
+use Rattle.network_file.proofs.laws.NumberSteps.{at_most_none, at_nothing, at_last, at_more, Small, rest_small}
 use Rattle.network_file.proofs.numbers.+read_groups.Goals as goal
 
 pub returns-then-left-eq0 : goal.returns-then-left-eq0

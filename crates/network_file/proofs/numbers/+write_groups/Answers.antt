@@ -1,6 +1,6 @@
 -- `write_groups` meets its contract: each way through it writes the bytes of one clause of `group_bytes`.
 use Rattle.std.proofs.Common.{refl, ap, ◌∙◌, arith, length, length-set}
-use Rattle.network_file.specs.laws.NumberSteps.{no_groups, one_group, some_groups, place_more, sets_more}
+use Rattle.network_file.proofs.laws.NumberSteps.{no_groups, one_group, some_groups, place_more, sets_more}
 use Rattle.network_file.proofs.numbers.+write_groups.Goals as goal
 
 pub returns-then-left-eq0 : goal.returns-then-left-eq0

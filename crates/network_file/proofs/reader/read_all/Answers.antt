@@ -1,9 +1,9 @@
 -- `read_all` meets its contract: n and m are taken, the links read, and nothing follows.
 use Rattle.std.proofs.Common.{sym, ◌∙◌, arith}
-use Rattle.base.specs.laws.ChecksLaws.{refused_by}
+use Rattle.base.proofs.laws.ChecksLaws.{refused_by}
 use Rattle.network_file.specs.Reading.{read_all}
 use Rattle.network_file.specs.code.Rows.{row_of}
-use Rattle.network_file.specs.laws.ReadingSteps.{behind, Headed, head_taken, links_refused, bytes_follow_lem, all_done}
+use Rattle.network_file.proofs.laws.ReadingSteps.{behind, Headed, head_taken, links_refused, bytes_follow_lem, all_done}
 use Rattle.network_file.proofs.reader.read_all.Goals as goal
 use Rattle.network_file.proofs.reader.read_all.Goals.{After-take_next-m}
 

@@ -1,9 +1,9 @@
 -- `read_link` meets its contract: three numbers are taken, one behind the other.
 use Rattle.std.proofs.Common.{sym, ◌∙◌, arith}
-use Rattle.base.specs.laws.ChecksLaws.{refused_by}
+use Rattle.base.proofs.laws.ChecksLaws.{refused_by}
 use Rattle.network_file.specs.Reading.{other_end_row, link_at}
 use Rattle.network_file.specs.code.Rows.{row_of}
-use Rattle.network_file.specs.laws.ReadingSteps.{accepted_by, behind, behind_next, Linked, link_taken}
+use Rattle.network_file.proofs.laws.ReadingSteps.{accepted_by, behind, behind_next, Linked, link_taken}
 use Rattle.network_file.proofs.reader.read_link.Goals as goal
 use Rattle.network_file.proofs.reader.read_link.Goals.{After-take_next-c}
 

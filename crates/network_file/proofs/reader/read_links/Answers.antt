@@ -1,6 +1,6 @@
 -- `read_links` meets its contract.
 use Rattle.std.proofs.Common.{◌∙◌}
-use Rattle.network_file.specs.laws.LinksSteps.{none_read, one_more, one_refused}
+use Rattle.network_file.proofs.laws.LinksSteps.{none_read, one_more, one_refused}
 use Rattle.network_file.proofs.reader.read_links.Goals as goal
 
 pub loop-k-init : goal.loop-k-init

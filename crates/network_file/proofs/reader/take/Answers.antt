@@ -1,10 +1,10 @@
 -- `take` meets its contract: what is read is refused, or a value that does not reach past the end, and then its row
 -- says.
 use Rattle.std.proofs.Common.{ℕ, ◌-◌, ◌≡◌, List, length, take, drop, sym, ap, ◌∙◌, arith}
-use Rattle.base.specs.laws.ListLaws.{rest_is}
+use Rattle.base.proofs.laws.ListLaws.{rest_is}
 use Rattle.network_file.specs.Number.{read_number}
 use Rattle.network_file.specs.declared.Number.{Number}
-use Rattle.network_file.specs.laws.ReadingSteps.{takes_none, takes_wrong, takes_value, value_within}
+use Rattle.network_file.proofs.laws.ReadingSteps.{takes_none, takes_wrong, takes_value, value_within}
 use Rattle.network_file.proofs.reader.take.Goals as goal
 
 -- what was read, of the list that stands behind the slice

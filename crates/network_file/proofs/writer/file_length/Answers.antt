@@ -1,8 +1,8 @@
 -- `file_length` meets its contract.
 use Rattle.std.proofs.Common.{arith}
-use Rattle.network.specs.laws.NetworkLaws.{nodes_le, links_le}
-use Rattle.network_file.specs.laws.LengthLaws.{file_most}
-use Rattle.network_file.specs.laws.WritingSteps.{file_long}
+use Rattle.network.proofs.laws.NetworkLaws.{nodes_le, links_le}
+use Rattle.network_file.proofs.laws.LengthLaws.{file_most}
+use Rattle.network_file.proofs.laws.WritingSteps.{file_long}
 use Rattle.network_file.proofs.writer.file_length.Goals as goal
 
 pub overflow_cast-net : goal.overflow_cast-net

@@ -1,6 +1,6 @@
 -- `link_length` meets its contract.
 use Rattle.std.proofs.Common.{arith}
-use Rattle.network_file.specs.laws.LengthLaws.{number_most}
+use Rattle.network_file.proofs.laws.LengthLaws.{number_most}
 use Rattle.network_file.proofs.writer.link_length.Goals as goal
 
 pub overflow_add-result : goal.overflow_add-result

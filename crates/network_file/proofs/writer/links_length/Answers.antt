@@ -1,9 +1,9 @@
 -- `links_length` meets its contract.
 use Rattle.std.proofs.Common.{◌+◌, arith, rules}
-use Rattle.network.specs.laws.NetworkLaws.{links_le}
+use Rattle.network.proofs.laws.NetworkLaws.{links_le}
 use Rattle.network_file.specs.Writing.{link_bytes}
-use Rattle.network_file.specs.laws.LengthLaws.{links_most}
-use Rattle.network_file.specs.laws.WritingSteps.{links_more}
+use Rattle.network_file.proofs.laws.LengthLaws.{links_most}
+use Rattle.network_file.proofs.laws.WritingSteps.{links_more}
 use Rattle.network_file.proofs.writer.links_length.Goals as goal
 
 pub loop-k-init : goal.loop-k-init

@@ -1,7 +1,7 @@
 -- `write` meets its contract: the length is known before the first byte is written.
 use Rattle.std.proofs.Common.{ℕ, ap, ◌∙◌, arith}
-use Rattle.network.specs.laws.NetworkLaws.{nodes_le, links_le}
-use Rattle.network_file.specs.laws.WritingSteps.{file_long, refuses_short, fills_front}
+use Rattle.network.proofs.laws.NetworkLaws.{nodes_le, links_le}
+use Rattle.network_file.proofs.laws.WritingSteps.{file_long, refuses_short, fills_front}
 use Rattle.network_file.proofs.writer.write.Goals as goal
 
 pub returns-then-out-length : goal.returns-then-out-length

@@ -1,6 +1,6 @@
 -- `write_link` meets its contract.
 use Rattle.network_file.specs.Number.{number_bytes}
-use Rattle.base.specs.laws.ListLaws.{three_runs}
+use Rattle.base.proofs.laws.ListLaws.{three_runs}
 use Rattle.network_file.proofs.writer.write_link.Goals as goal
 
 pub returns-clause-out_after : goal.returns-clause-out_after

@@ -1,7 +1,7 @@
 -- `write_links` meets its contract.
 use Rattle.std.proofs.Common.{arith}
-use Rattle.network.specs.laws.NetworkLaws.{links_le}
-use Rattle.network_file.specs.laws.WritingSteps.{none_written, has_places, one_written}
+use Rattle.network.proofs.laws.NetworkLaws.{links_le}
+use Rattle.network_file.proofs.laws.WritingSteps.{none_written, has_places, one_written}
 use Rattle.network_file.proofs.writer.write_links.Goals as goal
 
 pub loop-k-init : goal.loop-k-init

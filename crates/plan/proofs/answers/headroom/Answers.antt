@@ -1,6 +1,6 @@
 -- `plan::answers::headroom` meets its contract: one law at each way through the pair's answer.
 use Rattle.std.proofs.Common.{sym, ◌∙◌}
-use Rattle.plan.specs.laws.AnswersLaws.{headroom_refused, found_weight, headroom_over, headroom_found}
+use Rattle.plan.proofs.laws.AnswersLaws.{headroom_refused, found_weight, headroom_over, headroom_found}
 use Rattle.plan.proofs.answers.headroom.Goals as goal
 
 pub headroom_by-requires : goal.headroom_by-requires

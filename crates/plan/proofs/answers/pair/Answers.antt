@@ -1,7 +1,7 @@
 -- `plan::answers::pair` meets its contract: an unsound plan is refused; of a sound one the query answers.
 use Rattle.std.proofs.Common.{sym, ◌∙◌}
-use Rattle.plan.specs.laws.SoundFacts.{sound_climbs}
-use Rattle.plan.specs.laws.AnswersLaws.{pair_unsound, pair_query}
+use Rattle.plan.proofs.laws.SoundFacts.{sound_climbs}
+use Rattle.plan.proofs.laws.AnswersLaws.{pair_unsound, pair_query}
 use Rattle.plan.proofs.answers.pair.Goals as goal
 
 pub returns-then-not-is_sound : goal.returns-then-not-is_sound

@@ -1,7 +1,7 @@
 -- `plan::changes::altered` meets its contract: the rebuild's tree, its lightest edge and the steps, beside the changed
 -- network.
 use Rattle.std.proofs.Common.{arith}
-use Rattle.network.specs.laws.NetworkLaws.{links_le, nodes_le}
+use Rattle.network.proofs.laws.NetworkLaws.{links_le, nodes_le}
 use Rattle.plan.specs.Calls.{altered}
 use Rattle.plan.proofs.changes.altered.Goals as goal
 

@@ -2,9 +2,9 @@
 -- the stack has room.
 use Rattle.std.proofs.Common.{sym, ap, ◌∙◌, ◌<◌, arith}
 use Rattle.network.specs.Limits.{max_links}
-use Rattle.network.specs.laws.NetworkLaws.{links_le}
+use Rattle.network.proofs.laws.NetworkLaws.{links_le}
 use Rattle.plan.specs.Calls.{altered}
-use Rattle.plan.specs.laws.ChangesLaws.{change_refused, change_accepted, change_assumes}
+use Rattle.plan.proofs.laws.ChangesLaws.{change_refused, change_accepted, change_assumes}
 use Rattle.plan.specs.declared.Stack.{Stack}
 use Rattle.plan.proofs.changes.change.Goals as goal
 use Rattle.plan.proofs.changes.change.Goals.{Else-number-ne0}

@@ -4,7 +4,7 @@ use Rattle.std.proofs.Common.{sym, ap, ◌∙◌, ◌-◌, ◌≤◌, ◌<◌, a
 use Rattle.base.specs.Basics.{at}
 use Rattle.plan.specs.Plan.{max_depth}
 use Rattle.plan.specs.Calls.{altered}
-use Rattle.plan.specs.laws.ChangesLaws.{undo_refused, undo_accepted, undo_depth, undo_assumes}
+use Rattle.plan.proofs.laws.ChangesLaws.{undo_refused, undo_accepted, undo_depth, undo_assumes}
 use Rattle.plan.specs.declared.Stack.{Stack}
 use Rattle.plan.proofs.changes.undo.Goals as goal
 use Rattle.plan.proofs.changes.undo.Goals.{Else-number-ne0}

@@ -1,5 +1,5 @@
 -- `plan::checks::preview_number` meets its contract: the change's number, or the pair's behind it.
-use Rattle.plan.specs.laws.PreviewLaws.{by_change, by_pair}
+use Rattle.plan.proofs.laws.PreviewLaws.{by_change, by_pair}
 use Rattle.plan.proofs.checks.preview_number.Goals as goal
 
 pub returns-then-number-ne0 : goal.returns-then-number-ne0

@@ -1,7 +1,8 @@
 -- `plan::checks::undo_number` meets its contract: one row of the table at each return.
 use Rattle.std.proofs.Common.{sym, ap, ◌∙◌, not}
 use borrow.Author.Tests.{eq-eqb, ne_eqb}
-use Rattle.base.specs.Checks.{Given, passed, here, later, only}
+use Rattle.base.specs.Checks.{Given, passed, here, later}
+use Rattle.base.proofs.theorems.Checks.{only}
 use Rattle.plan.specs.Calls.{undo_rows, undo_number}
 use Rattle.plan.proofs.checks.undo_number.Goals as goal
 

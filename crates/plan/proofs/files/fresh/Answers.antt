@@ -1,5 +1,5 @@
 -- `plan::files::fresh` meets its contract.
-use Rattle.network.specs.laws.NetworkLaws.{nodes_le}
+use Rattle.network.proofs.laws.NetworkLaws.{nodes_le}
 use Rattle.plan.proofs.files.fresh.Goals as goal
 
 pub lightest_edge-lightest-requires : goal.lightest_edge-lightest-requires

@@ -1,6 +1,6 @@
 -- `plan::files::open` meets its contract: a refused file beside no plan; an accepted one as the plan of its network.
 use Rattle.std.proofs.Common.{sym}
-use Rattle.plan.specs.laws.FilesLaws.{open_refused, open_accepted, open_within}
+use Rattle.plan.proofs.laws.FilesLaws.{open_refused, open_accepted, open_within}
 use Rattle.plan.proofs.files.open.Goals as goal
 
 pub returns-then-reading-ne0 : goal.returns-then-reading-ne0

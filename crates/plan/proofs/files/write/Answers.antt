@@ -1,7 +1,7 @@
 -- `plan::files::write` meets its contract: an unsound plan is refused; of a sound one the network is written.
 use Rattle.std.proofs.Common.{sym, ◌∙◌}
-use Rattle.plan.specs.laws.SoundFacts.{sound_network}
-use Rattle.plan.specs.laws.FilesLaws.{write_unsound, left_unsound, write_reply, left_written}
+use Rattle.plan.proofs.laws.SoundFacts.{sound_network}
+use Rattle.plan.proofs.laws.FilesLaws.{write_unsound, left_unsound, write_reply, left_written}
 use Rattle.plan.proofs.files.write.Goals as goal
 
 pub returns-then-not-is_sound : goal.returns-then-not-is_sound

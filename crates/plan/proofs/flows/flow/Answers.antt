@@ -2,9 +2,9 @@
 use Rattle.std.proofs.Common.{sym, ap, ◌∙◌, not}
 use borrow.Author.Tests.{eq-eqb, ne_eqb}
 use Rattle.base.specs.Checks.{passed, here, later}
-use Rattle.base.specs.laws.ChecksLaws.{both_below, first_outside, other_outside}
-use Rattle.plan.specs.laws.SoundFacts.{sound_network}
-use Rattle.plan.specs.laws.FlowsLaws.{flow_refused, flow_filled}
+use Rattle.base.proofs.laws.ChecksLaws.{both_below, first_outside, other_outside}
+use Rattle.plan.proofs.laws.SoundFacts.{sound_network}
+use Rattle.plan.proofs.laws.FlowsLaws.{flow_refused, flow_filled}
 use Rattle.plan.proofs.flows.flow.Goals as goal
 
 pub returns-then-not-is_sound : goal.returns-then-not-is_sound

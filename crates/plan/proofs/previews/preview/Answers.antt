@@ -1,5 +1,5 @@
 -- `plan::previews::preview` meets its contract. Once no row held, the changed tree is one that a pair can be asked of.
-use Rattle.plan.specs.laws.PreviewLaws.{preview_refused, preview_assumes, preview_climbs, preview_found}
+use Rattle.plan.proofs.laws.PreviewLaws.{preview_refused, preview_assumes, preview_climbs, preview_found}
 use Rattle.plan.proofs.previews.preview.Goals as goal
 
 pub returns-then-number-ne0 : goal.returns-then-number-ne0

@@ -1,6 +1,6 @@
 -- `plan::sound::each_entry_fits` meets its contract.
 use Rattle.std.proofs.Common.{sym, ◌∙◌}
-use Rattle.base.specs.laws.TestLaws.{all_none, all_more, all_fails}
+use Rattle.base.proofs.laws.TestLaws.{all_none, all_more, all_fails}
 use Rattle.plan.proofs.sound.each_entry_fits.Goals as goal
 
 pub loop-i-init : goal.loop-i-init

@@ -1,6 +1,6 @@
 -- `plan::sound::each_step_fits` meets its contract.
 use Rattle.std.proofs.Common.{sym, ◌∙◌, arith}
-use Rattle.plan.specs.laws.SoundLaws.{root_step, root_step_fails, step_more, step_fails}
+use Rattle.plan.proofs.laws.SoundLaws.{root_step, root_step_fails, step_more, step_fails}
 use Rattle.plan.proofs.sound.each_step_fits.Goals as goal
 
 pub returns-then-not-root_step_within : goal.returns-then-not-root_step_within

@@ -1,7 +1,7 @@
 -- `plan::sound::entry_within` meets its contract: one test of the definition at each return.
 use Rattle.std.proofs.Common.{refl}
 use borrow.Author.Tests.{lt-ltb, le-ltb}
-use Rattle.base.specs.laws.TestLaws.{fail, pass, last, settled}
+use Rattle.base.proofs.laws.TestLaws.{fail, pass, last, settled}
 use Rattle.plan.proofs.sound.entry_within.Goals as goal
 
 pub returns-then-link-m : goal.returns-then-link-m

@@ -1,7 +1,7 @@
 -- `plan::sound::is_edge` meets its contract: one test of the definition at each return.
 use Rattle.std.proofs.Common.{refl, ap, not}
 use borrow.Author.Tests.{lt-ltb, le-ltb, eq-eqb, ne_eqb}
-use Rattle.base.specs.laws.TestLaws.{fail, pass, last, settled}
+use Rattle.base.proofs.laws.TestLaws.{fail, pass, last, settled}
 use Rattle.plan.specs.code.SoundParts.{is_edge}
 use Rattle.plan.proofs.sound.is_edge.Goals as goal
 

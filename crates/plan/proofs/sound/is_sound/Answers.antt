@@ -1,10 +1,10 @@
 -- `plan::sound::is_sound` meets its contract: at each return one test of the definition, at the tree's also that of its
 -- lightest edge. A network that fits has few enough nodes for the others.
 use Rattle.std.proofs.Common.{sym, ◌∙◌}
-use Rattle.base.specs.laws.TestLaws.{fail, pass, last, pass_two, fail_two, settled}
-use Rattle.network.specs.laws.NetworkLaws.{nodes_pos, nodes_le}
+use Rattle.base.proofs.laws.TestLaws.{fail, pass, last, pass_two, fail_two, settled}
+use Rattle.network.proofs.laws.NetworkLaws.{nodes_pos, nodes_le}
 use Rattle.plan.specs.Plan.{sound}
-use Rattle.plan.specs.laws.SoundLaws.{tree_edge}
+use Rattle.plan.proofs.laws.SoundLaws.{tree_edge}
 use Rattle.plan.proofs.sound.is_sound.Goals as goal
 
 pub returns-then-not-fits : goal.returns-then-not-fits

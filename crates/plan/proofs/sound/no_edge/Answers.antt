@@ -1,7 +1,7 @@
 -- `plan::sound::no_edge` meets its contract: one test of the definition at each return.
 use Rattle.std.proofs.Common.{refl}
 use borrow.Author.Tests.{eq-eqb, ne_eqb}
-use Rattle.base.specs.laws.TestLaws.{fail, pass, last, settled}
+use Rattle.base.proofs.laws.TestLaws.{fail, pass, last, settled}
 use Rattle.plan.proofs.sound.no_edge.Goals as goal
 
 pub returns-then-edge-ne0 : goal.returns-then-edge-ne0

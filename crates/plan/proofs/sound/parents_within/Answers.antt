@@ -1,6 +1,6 @@
 -- `plan::sound::parents_within` meets its contract.
 use Rattle.std.proofs.Common.{sym, ◌∙◌}
-use Rattle.base.specs.laws.TestLaws.{all_none, all_more, all_fails}
+use Rattle.base.proofs.laws.TestLaws.{all_none, all_more, all_fails}
 use Rattle.plan.proofs.sound.parents_within.Goals as goal
 
 pub loop-i-init : goal.loop-i-init

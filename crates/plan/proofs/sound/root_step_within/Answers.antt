@@ -1,7 +1,7 @@
 -- `plan::sound::root_step_within` meets its contract: one test of the definition at each return.
 use Rattle.std.proofs.Common.{refl}
 use borrow.Author.Tests.{eq-eqb, ne_eqb}
-use Rattle.base.specs.laws.TestLaws.{fail, pass, last, settled}
+use Rattle.base.proofs.laws.TestLaws.{fail, pass, last, settled}
 use Rattle.plan.proofs.sound.root_step_within.Goals as goal
 
 pub returns-then-pivot-ne0 : goal.returns-then-pivot-ne0

@@ -1,7 +1,7 @@
 -- `plan::sound::rooted` meets its contract.
 use Rattle.std.proofs.Common.{sym, ◌∙◌}
-use Rattle.base.specs.laws.TestLaws.{all_none, all_more, all_fails}
-use Rattle.plan.specs.laws.SoundLaws.{parents_inside}
+use Rattle.base.proofs.laws.TestLaws.{all_none, all_more, all_fails}
+use Rattle.plan.proofs.laws.SoundLaws.{parents_inside}
 use Rattle.plan.proofs.sound.rooted.Goals as goal
 
 pub loop-i-init : goal.loop-i-init

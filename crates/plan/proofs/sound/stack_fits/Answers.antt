@@ -1,7 +1,7 @@
 -- `plan::sound::stack_fits` meets its contract: one test of the definition at each return.
 use Rattle.std.proofs.Common.{sym, ◌∙◌}
 use borrow.Author.Tests.{le-leb, lt-leb}
-use Rattle.base.specs.laws.TestLaws.{fail, pass, last, settled}
+use Rattle.base.proofs.laws.TestLaws.{fail, pass, last, settled}
 use Rattle.plan.specs.Plan.{stack_fits}
 use Rattle.plan.proofs.sound.stack_fits.Goals as goal
 

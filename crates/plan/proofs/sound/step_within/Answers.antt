@@ -1,8 +1,8 @@
 -- `plan::sound::step_within` meets its contract: one test of the definition at each return.
 use Rattle.std.proofs.Common.{sym, ap, ◌∙◌, not}
 use borrow.Author.Tests.{lt-ltb, le-ltb, le-leb, lt-leb}
-use Rattle.base.specs.laws.TestLaws.{fail, pass, last, settled}
-use Rattle.plan.specs.laws.SoundLaws.{side_within, side_outside}
+use Rattle.base.proofs.laws.TestLaws.{fail, pass, last, settled}
+use Rattle.plan.proofs.laws.SoundLaws.{side_within, side_outside}
 use Rattle.plan.proofs.sound.step_within.Goals as goal
 
 pub returns-then-t-n : goal.returns-then-t-n

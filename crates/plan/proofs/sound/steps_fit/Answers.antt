@@ -1,6 +1,6 @@
 -- `plan::sound::steps_fit` meets its contract: one test of the definition at each return.
 use Rattle.std.proofs.Common.{sym, ◌∙◌}
-use Rattle.base.specs.laws.TestLaws.{fail, pass, last, settled}
+use Rattle.base.proofs.laws.TestLaws.{fail, pass, last, settled}
 use Rattle.plan.specs.Plan.{steps_fit}
 use Rattle.plan.proofs.sound.steps_fit.Goals as goal
 

@@ -1,7 +1,7 @@
 -- `plan::sound::tree_fits` meets its contract: one test of the definition at each return.
 use Rattle.std.proofs.Common.{◌≡◌, sym, ◌∙◌, true, ℕ, List, ◌∷◌, eqb, Bool}
 use borrow.Author.Tests.{eq-eqb, ne_eqb}
-use Rattle.base.specs.laws.TestLaws.{Settled, fail, pass, last, settled}
+use Rattle.base.proofs.laws.TestLaws.{Settled, fail, pass, last, settled}
 use Rattle.plan.specs.code.SoundParts.{tree_with_edge}
 use Rattle.plan.proofs.sound.tree_fits.Goals as goal
 

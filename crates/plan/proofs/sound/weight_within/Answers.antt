@@ -1,6 +1,6 @@
 -- `plan::sound::weight_within` meets its contract: one test of the definition at each return.
 use borrow.Author.Tests.{le-leb, lt-leb, lt-ltb, le-ltb}
-use Rattle.base.specs.laws.TestLaws.{fail, pass, last, settled}
+use Rattle.base.proofs.laws.TestLaws.{fail, pass, last, settled}
 use Rattle.plan.specs.code.SoundParts.{weight_within}
 use Rattle.plan.proofs.sound.weight_within.Goals as goal
 

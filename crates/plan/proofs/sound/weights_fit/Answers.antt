@@ -1,6 +1,6 @@
 -- `plan::sound::weights_fit` meets its contract.
 use Rattle.std.proofs.Common.{sym, ◌∙◌, arith}
-use Rattle.plan.specs.laws.WeightLaws.{one_more, not_own, not_each, fits}
+use Rattle.plan.proofs.laws.WeightLaws.{one_more, not_own, not_each, fits}
 use Rattle.plan.proofs.sound.weights_fit.Goals as goal
 
 pub returns-then-not-is_edge : goal.returns-then-not-is_edge

@@ -2,7 +2,7 @@
 use mathlib.Core.Path.{sym, ◌∙◌}
 use native.Mathlib.Omega.{arith}
 use borrow.Author.Rules.{rules}
-use Rattle.text.specs.laws.ColumnsLaws.{below_zero, not_is, plain_cast}
+use Rattle.text.proofs.laws.ColumnsLaws.{below_zero, not_is, plain_cast}
 use Rattle.readings.proofs.print.size.Statement.{statement}
 use Rattle.readings.proofs.print.size.Tie as tie
 

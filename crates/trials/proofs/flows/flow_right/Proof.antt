@@ -1,6 +1,6 @@
 -- The buffer has room for every link.
 use Rattle.std.proofs.Common.{sym, length-take-le, rules}
-use Rattle.network.specs.laws.NetworkLaws.{links_le}
+use Rattle.network.proofs.laws.NetworkLaws.{links_le}
 use Rattle.trials.proofs.flows.flow_right.Statement.{statement}
 use Rattle.trials.proofs.flows.flow_right.Tie as tie
 

@@ -1,6 +1,6 @@
 -- The complement of a number below zero is one less than its size.
 use Rattle.std.proofs.Common.{sym, ◌∙◌, arith, rules}
-use Rattle.text.specs.laws.ColumnsLaws.{below_zero, not_is}
+use Rattle.text.proofs.laws.ColumnsLaws.{below_zero, not_is}
 use Rattle.trials.proofs.lawful.backward.Statement.{statement}
 use Rattle.trials.proofs.lawful.backward.Tie as tie
 

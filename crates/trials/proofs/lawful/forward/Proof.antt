@@ -1,6 +1,6 @@
 -- A number that is not below zero is itself unsigned.
 use Rattle.std.proofs.Common.{sym, ◌∙◌, rules}
-use Rattle.text.specs.laws.ColumnsLaws.{below_zero, plain_cast}
+use Rattle.text.proofs.laws.ColumnsLaws.{below_zero, plain_cast}
 use Rattle.trials.proofs.lawful.forward.Statement.{statement}
 use Rattle.trials.proofs.lawful.forward.Tie as tie
 

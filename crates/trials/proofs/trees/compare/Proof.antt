@@ -1,10 +1,10 @@
 -- `compare` asks pairs of a tree that the rule built, in which every node reaches node 0.
 use Rattle.std.proofs.Common.{◌≡◌, true, rules}
 use Rattle.network.specs.Network.{network_fits}
-use Rattle.network.specs.laws.NetworkLaws.{nodes_le}
+use Rattle.network.proofs.laws.NetworkLaws.{nodes_le}
 use Rattle.network.specs.declared.Network.{Network}
 use Rattle.cut_tree.specs.Rule.{rule}
-use Rattle.cut_tree.specs.laws.RuleShape.{rule_shape}
+use Rattle.cut_tree.proofs.laws.RuleShape.{rule_shape}
 use Rattle.cut_tree.specs.Path.{Climbs}
 use Rattle.cut_tree.specs.declared.Built.{Built}
 use Rattle.trials.proofs.trees.compare.Statement.{statement}

@@ -1,0 +1,2 @@
+-- Theorems: what holds of the definitions of specs/.
+pub mod Checks

@@ -1,0 +1,96 @@
+-- A reading by value: one law for each way through the code.
+use Rattle.std.specs.Prelude.{ℕ, zero, suc, ◌+◌, ◌≤◌, ◌<◌, ◌≡◌, ◌≢◌, Bool, true, false, not, [], ◌∷◌, ltb, ℤ}
+use Rattle.std.proofs.Math.Path.{refl, ap}
+use Rattle.std.proofs.Common.{sym, ap₂, ◌∙◌, arith, lt-ltb, le-ltb, SFits, to_z, of_z, to_z-of_z}
+use Rattle.std.specs.Int.Signed.{lt_z}
+use Rattle.std.specs.Int.{w32}
+use Rattle.base.specs.Basics.{pick}
+use Rattle.base.specs.Checks.{row, check, accepted}
+use Rattle.base.proofs.laws.ChecksLaws.{positive, chain_on}
+use Rattle.network.specs.Refusals.{too_many_readings}
+use Rattle.plan.specs.Calls.{headroom_rows, headroom_number, headroom_of}
+use Rattle.plan.proofs.theorems.Numbers.{headroom_is}
+use Rattle.plan.specs.declared.Plan.{Plan}
+use Rattle.plan.specs.declared.HeadroomReply.{HeadroomReply}
+use Rattle.gate_window.specs.Reading.{max_readings, reading_number, lowest_by, noted, read, not_read, reading_of}
+use Rattle.gate_window.specs.declared.Window.{Window}
+
+-- a signed number as it is handed on: its bits, read back
+abbrev pub back : ℤ → ℤ
+back z = to_z w32 (of_z w32 z)
+
+-- ---- the lowest
+module _ (n : ℕ) (lowest z : ℤ) (f : SFits w32 lowest) (g : SFits w32 z) where
+  pub lowest_first : n ≡ 0 → back z ≡ lowest_by n lowest z
+  lowest_first e = rw e (to_z-of_z g)
+
+  later : n ≢ 0 → (b : Bool) → lt_z (back z) (back lowest) ≡ b → lowest_by n lowest z ≡ pick b z lowest
+  later d b e = go n d
+    where
+      test : lt_z z lowest ≡ b
+      test = sym (ap₂ lt_z (to_z-of_z g) (to_z-of_z f)) ∙ e
+
+      go : (n : ℕ) → n ≢ 0 → lowest_by n lowest z ≡ pick b z lowest
+      go zero d = absurd (d refl)
+      go (suc n) d = ap (λ (b : Bool). pick b z lowest) test
+
+  pub lowest_less : n ≢ 0 → lt_z (back z) (back lowest) ≡ true → back z ≡ lowest_by n lowest z
+  lowest_less d e = to_z-of_z g ∙ sym (later d true e)
+
+  pub lowest_stays : n ≢ 0 → lt_z (back z) (back lowest) ≡ false → back lowest ≡ lowest_by n lowest z
+  lowest_stays d e = to_z-of_z f ∙ sym (later d false e)
+
+lowest_fits : (n : ℕ) (lowest z : ℤ) → SFits w32 lowest → SFits w32 z → SFits w32 (lowest_by n lowest z)
+lowest_fits zero lowest z f g = g
+lowest_fits (suc n) lowest z f g = go (lt_z z lowest)
+  where
+    go : (b : Bool) → SFits w32 (pick b z lowest)
+    go true = g
+    go false = f
+
+-- ---- the three numbers; l is the lowest that the code found
+pub noted_is : (w : Window) (z l : ℤ) → SFits w32 w.lowest → SFits w32 z → l ≡ lowest_by w.count (back w.lowest) (back z)
+    → record { last = back z; lowest = back l; count = w.count + 1 } ≡ noted w z
+noted_is w z l f g e = λ i. record { last = to_z-of_z g i; lowest = low i; count = more i }
+  where
+    plain : l ≡ lowest_by w.count w.lowest z
+    plain = e ∙ ap₂ (lowest_by w.count) (to_z-of_z f) (to_z-of_z g)
+
+    low : back l ≡ lowest_by w.count w.lowest z
+    low = ap back plain ∙ to_z-of_z (lowest_fits w.count w.lowest z f g)
+
+    more : w.count + 1 ≡ suc w.count
+    more = omega arith
+
+-- ---- the reading; h is the headroom that the code found
+-- what the record's own row says
+abbrev own : ℕ → ℕ
+own count = check (not (ltb count max_readings)) too_many_readings 0
+
+module _ (p : Plan) (s t demand : ℕ) (h : HeadroomReply) (is : h ≡ headroom_of p s t demand) where
+  -- its number is the headroom's, or that of the record's own row
+  pub number_by : (count : ℕ) → reading_number p count s t demand ≡ accepted h.number (own count) (λ e. e)
+  unfolding reading_number headroom_number positive
+  number_by count =
+      chain_on (headroom_rows p s t demand []) (row (not (ltb count max_readings)) too_many_readings ∷ []) refl
+      ∙ ap (λ e. accepted e (own count) (λ e. e))
+      (sym (headroom_is p s t demand) ∙ ap (λ (h : HeadroomReply). h.number) (sym is))
+
+  module _ (w : Window) where
+    found : reading_of p w s t demand
+        ≡ accepted (accepted h.number (own w.count) (λ e. e)) (read w h.value) (not_read w)
+    unfolding reading_of
+    found = rw (number_by w.count, ← is)
+
+    pub not_read_lem : h.number ≢ 0 → not_read w h.number ≡ reading_of p w s t demand
+    not_read_lem d = sym (found ∙ go h.number d)
+      where
+        go : (e : ℕ) → e ≢ 0 → accepted (accepted e (own w.count) (λ e. e)) (read w h.value) (not_read w) ≡ not_read w e
+        go zero d = absurd (d refl)
+        go (suc e) d = refl
+
+    pub full : h.number ≡ 0 → max_readings ≤ w.count → not_read w too_many_readings ≡ reading_of p w s t demand
+    full z l = sym (found ∙ rw (z, le-ltb w.count max_readings l))
+
+    pub is_read : h.number ≡ 0 → w.count < max_readings → read w h.value ≡ reading_of p w s t demand
+    is_read z l = sym (found ∙ rw (z, lt-ltb w.count max_readings l))

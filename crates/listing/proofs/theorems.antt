@@ -1,0 +1,3 @@
+-- Theorems: what holds of the definitions of specs/.
+pub mod Front
+pub mod Shown

@@ -1,0 +1,152 @@
+-- What holds of the definitions of specs/code/Send.antt.
+use Rattle.std.specs.Prelude.{◌≡◌, ◌≢◌, Bool, List, ℕ, ◌+◌, ◌-◌, ◌*◌, ◌/◌, ◌%◌, ◌<◌, ◌≤◌}
+use Rattle.std.proofs.Math.Path.{refl}
+use Rattle.std.proofs.Common.{sym, ap, ◌∙◌, true≢false, arith}
+use Rattle.std.proofs.Math.Bool.{true, false, cond}
+use Rattle.std.proofs.Math.Decide.{ℕ_discrete}
+use borrow.Author.Tests.{eq-eqb, ne_eqb, leb-true, leb-false}
+use Rattle.std.proofs.Math.Dec.{leb}
+use Rattle.min_cut.specs.Cut.{Net}
+use Rattle.base.specs.Word.{holds}
+use Rattle.min_cut.specs.code.Residual.{Pushed}
+use Rattle.min_cut.proofs.code.Residual.{when_none, when_add}
+use Rattle.min_cut.specs.code.Arcs.{tail, tip, spare, forward}
+use Rattle.base.specs.Basics.{at}
+use Rattle.network.specs.Limits.{max_arcs}
+use Rattle.network.specs.Network.{network_fits, graph}
+use Rattle.network.specs.declared.Network.{Network}
+use Rattle.node_set.specs.Set.{added}
+use Rattle.node_set.proofs.theorems.Members.{added_same, added_keeps}
+use Rattle.max_flow.specs.GrowingFlow.{ahead, back}
+use Rattle.max_flow.specs.code.Residuals.{lesser_of, room_on, sent_along, Balanced, Along, Flowing}
+use Rattle.max_flow.proofs.laws.ResidualLaws.{lesser_fits, along_pushed, along_balanced, along_other}
+use Rattle.max_flow.proofs.laws.GrowthLaws.{sent_by}
+use Rattle.max_flow.specs.code.Search.{Ready}
+use Rattle.max_flow.specs.code.Send.{Consistent, Sends, Way, other_way}
+
+-- ---- the test of an arc
+pub other_lt : (j : ℕ) → j < max_arcs → other_way j < max_arcs
+other_lt j l = go (ℕ_discrete (j % 2) 0)
+  where
+    go : Dec (j % 2 ≡ 0) → other_way j < max_arcs
+    go (yes q) = omega arith
+    go (no q) = omega arith
+
+back_tip : (G : Net) (j : ℕ) → tip G (other_way j) ≡ tail G j
+unfolding tip tail
+back_tip G j = go (ℕ_discrete (j % 2) 0)
+  where
+    go : Dec (j % 2 ≡ 0)
+        → cond (forward (other_way j)) (G.b (other_way j / 2)) (G.a (other_way j / 2))
+        ≡ cond (forward j) (G.a (j / 2)) (G.b (j / 2))
+    go (yes q) =
+        let h : other_way j / 2 ≡ j / 2 = omega arith in
+        let o : other_way j % 2 ≢ 0 = λ z. omega arith in
+        rw (h, ne_eqb (other_way j % 2) 0 o, eq-eqb (j % 2) 0 q)
+    go (no q) =
+        let h : other_way j / 2 ≡ j / 2 = omega arith in
+        let o : other_way j % 2 ≡ 0 = omega arith in
+        rw (h, eq-eqb (other_way j % 2) 0 o, ne_eqb (j % 2) 0 q)
+
+module _ {net : Network} {to : List ℕ} {r : List (List ℕ)} (a : Consistent net to r) where
+  -- what has room is an arc of the network
+  arc_here : (j : ℕ) → j < max_arcs → 0 < room_on r j → j < 2 * net.links
+  unfolding spare
+  arc_here j l p = go (leb net.links (j / 2)) refl (forward j) p
+    where
+      go : (o : Bool) → leb net.links (j / 2) ≡ o → (f : Bool) → 0 < cond f (ahead r (j / 2)) (back r (j / 2))
+          → j < 2 * net.links
+      go true q true z =
+          absurd (omega (arith, a.balanced.none (j / 2) (leb-true net.links (j / 2) q) (omega arith)))
+      go true q false z =
+          absurd (omega (arith, a.balanced.none (j / 2) (leb-true net.links (j / 2) q) (omega arith)))
+      go false q f z = omega (arith, leb-false net.links (j / 2) q)
+
+  pub way : (on u x j d : ℕ) → j < max_arcs → at to j ≡ x → at to (other_way j) ≡ u → holds on x ≡ false → d ≡ room_on r j
+      → 0 < d → Way net r on u x j d
+  way on u x j d l ex eu off e p =
+      let h : j < 2 * net.links = arc_here j l (omega (arith, e)) in
+      record {
+        here = h;
+        starts = sym (back_tip (graph net) j) ∙ sym (a.leads (other_way j) (omega arith)) ∙ eu;
+        leads = sym (a.leads j h) ∙ ex;
+        off = off;
+        fits = omega (arith, e);
+      }
+
+-- what is left after a call
+pub consistent_next : {net : Network} {to : List ℕ} {t on u limit d : ℕ} {r r' : List (List ℕ)} → Consistent net to r
+    → Sends net t on u limit d r r' → Consistent net to r'
+consistent_next a o = record { fits = a.fits; leads = a.leads; balanced = o.sent.balanced }
+
+-- ---- what is sent
+-- at t itself
+pub send_there : {net : Network} {t on limit : ℕ} {r : List (List ℕ)} → Balanced net r
+    → Sends net t on t limit limit r r
+send_there b = record { within = omega arith; sent = sent_by b b (λ X. refl); kept = λ e h. omega arith }
+
+module _ {net : Network} {t on u : ℕ} where
+  -- nothing yet
+  pub send_none : {limit : ℕ} {r : List (List ℕ)} → Balanced net r → Sends net t on u limit 0 r r
+  send_none b =
+      record {
+        within = omega arith;
+        sent = sent_by b b (λ X. omega (arith, when_none (X u), when_none (X t)));
+        kept = λ e h. omega arith;
+      }
+
+  -- more, of what is left of the limit
+  pub send_more : {limit sent left d : ℕ} {r r1 r2 : List (List ℕ)} → Balanced net r
+      → Sends net t on u limit sent r r1 → Sends net t on u left d r1 r2 → left ≡ limit - sent
+      → Sends net t on u limit (sent + d) r r2
+  send_more {limit} {sent} {left} {d} b o a q =
+      record {
+        within = omega (arith, o.within, a.within);
+        sent =
+            sent_by b a.sent.balanced
+            (λ X. omega (arith, o.sent.pushed X, a.sent.pushed X, when_add sent d (X u), when_add sent d (X t)));
+        kept = λ e h. omega (arith, o.kept e h, a.kept e h);
+      }
+
+  -- by arc j to x, and on from there
+  module _ {x j spare want d on' : ℕ} {r r1 : List (List ℕ)} (limit : ℕ) (f : network_fits net ≡ true)
+      (b : Balanced net r) (y : 0 < spare → Way net r on u x j spare) (e : want ≡ lesser_of spare limit) (p : want ≢ 0)
+      (q : on' ≡ added on x) (a : Sends net t on' x want d r r1) where
+    lesser : (lesser_of spare limit ≤ spare) × (lesser_of spare limit ≤ limit)
+    lesser = ((lesser_fits spare limit).0, (lesser_fits spare limit).1)
+
+    w : Way net r on u x j spare
+    w = y (omega (arith, lesser.0, e, p))
+
+    dl : d ≤ room_on r1 j
+    dl = omega (arith, a.within, e, lesser.0, w.fits, a.kept j (rw (q, w.leads) (added_same on x)))
+
+    pub send_along : Along net r1 j d
+    send_along = record { fits = f; balanced = a.sent.balanced; here = w.here; spare = dl }
+
+    apart : (i : ℕ) → holds on (tip (graph net) i) ≡ true → i ≢ j
+    apart i h z = true≢false (sym h ∙ ap (λ k. holds on (tip (graph net) k)) z ∙ ap (holds on) w.leads ∙ w.off)
+
+    one : Pushed (graph net) u x d (ahead r1) (back r1) (ahead (sent_along r1 j d)) (back (sent_along r1 j d))
+    one = rw (← w.starts, ← w.leads) (along_pushed send_along)
+
+    pub send_way : Sends net t on u limit d r (sent_along r1 j d)
+    send_way =
+        record {
+          within = omega (arith, a.within, e, lesser.1);
+          sent = sent_by b (along_balanced send_along) (λ X. omega (arith, a.sent.pushed X, one X));
+          kept = λ i h.
+              omega (
+                arith,
+                a.kept i (rw q (added_keeps on x (tip (graph net) i) h)),
+                along_other send_along i (apart i h),
+              );
+        }
+
+pub consistent_flow : {net : Network} {to : List ℕ} {s t v : ℕ} {r r' : List (List ℕ)} → Consistent net to r
+    → Flowing net s t v r' → Consistent net to r'
+consistent_flow a f = record { fits = a.fits; leads = a.leads; balanced = f.balanced }
+
+pub ready_consistent : {net : Network} {first next to : List ℕ} {s t v : ℕ} {r : List (List ℕ)}
+    → Ready net first next to s t → Flowing net s t v r → Consistent net to r
+ready_consistent a f = record { fits = a.ends.fits; leads = a.chains.leads; balanced = f.balanced }

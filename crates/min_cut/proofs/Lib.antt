@@ -1,0 +1,8 @@
+-- Theorems: what holds of the definitions of specs/.
+pub mod theorems
+-- Lemmas on what contracts inside the crate cite.
+pub mod code
+-- Lemmas, for the proofs. Nothing here has to be believed.
+pub mod laws
+-- Worked examples, by evaluation.
+pub mod examples

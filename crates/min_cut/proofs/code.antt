@@ -1,0 +1,3 @@
+-- Lemmas on what contracts inside the crate cite.
+pub mod Residual
+pub mod Arcs

@@ -1,0 +1,4 @@
+-- Lemmas, for the proofs. Nothing here has to be believed.
+pub mod laws
+-- Worked examples, by evaluation.
+pub mod examples

@@ -1,0 +1,36 @@
+-- What holds of the definitions of specs/Files.antt.
+use Rattle.network_file.specs.Reading.{read_file}
+use Rattle.network_file.proofs.laws.FileLaws.{accepts, written_back, accepted_place, refused_network, round_trip}
+use Rattle.network_file.proofs.laws.FileLaws.{file_of_injective, written_accepted}
+use Rattle.network_file.proofs.laws.FaultLaws.{fault_given, fault_only, fault_number}
+use Rattle.network_file.proofs.laws.FrontLaws.{read_front, accepted_length}
+use Rattle.network_file.proofs.laws.LengthLaws.{file_most, file_bytes, largest_within, largest_longest}
+use Rattle.network_file.specs.Files.{Front, OneFile, Refusals}
+
+pub one_file : OneFile
+one_file =
+    record {
+      read_back = round_trip;
+      written_back = written_back;
+      accepted = λ s b. (
+        λ e. record { network = (read_file s).network; within = accepts s e; file = written_back s b e },
+        λ f. written_accepted f.network s f.within f.file,
+      );
+      one_network = file_of_injective;
+      bytes = λ net w. file_bytes net w.fits;
+      longest = λ net w. file_most net w.fits;
+      reached = (largest_within, largest_longest);
+    }
+
+pub refusals : Refusals
+refusals =
+    record {
+      given = fault_given;
+      only = fault_only;
+      numbers = λ s e place f. fault_number f;
+      zeros = refused_network;
+      no_place = accepted_place;
+    }
+
+pub front : Front
+front = record { same = read_front; no_longer = accepted_length }

@@ -1,0 +1,2 @@
+-- Lemmas, for the proofs. Nothing here has to be believed.
+pub mod laws
