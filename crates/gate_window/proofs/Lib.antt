@@ -1,5 +1,3 @@
--- what the proofs of src/lib.rt share
-pub mod Records
 -- Theorems: what holds of the definitions of specs/.
 pub mod theorems
 -- Lemmas, for the proofs. Nothing here has to be believed.

@@ -1,0 +1,12 @@
+-- `tree_lines` meets its contract. At the head of a turn the lines of nodes 1 to i - 1 stand.
+use Rattle.std.proofs.Common.{◌-◌, ◌≤◌}
+use Rattle.base.specs.code.Puts.{Puts}
+use Rattle.listing.specs.Listing.{tree_lines}
+use Rattle.listing.proofs.lines.tree_lines.Given as goal
+
+abbrev pub invariant-loop-i : goal.invariant-loop-i
+invariant-loop-i l =
+    record {
+      within : l.i - 1 ≤ l.nodes - 1;
+      stands : Puts l.initial.out l.place (tree_lines l.tree (l.i - 1)) l.next l.out;
+    }
