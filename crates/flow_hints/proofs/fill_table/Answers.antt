@@ -1,0 +1,54 @@
+-- `fill_table` puts in the arcs of the links before k.
+use Prim.Native.Nat.{◌<◌}
+use mathlib.Core.Path.{◌≡◌, refl}
+use native.Mathlib.Numerals.{add-one}
+use native.Mathlib.Omega.{arith}
+use Rattle.base.specs.Basics.{at}
+use Rattle.network.specs.Limits.{max_nodes, max_links}
+use Rattle.network.proofs.laws.NetworkLaws.{link_places}
+use Rattle.flow_hints.specs.code.Hints.{table_up_to}
+use Rattle.flow_hints.proofs.fill_table.Goals as goal
+use Rattle.flow_hints.proofs.fill_table.Goals.{In-loop-k}
+
+places : (c : In-loop-k)
+    → (c.loop-k.k < max_links)
+    × (at c.args.net.a c.loop-k.k < max_nodes)
+    × (at c.args.net.b c.loop-k.k < max_nodes)
+places c = link_places c.args.net c.requires c.loop-k.k c.loop-k-test.true
+
+pub loop-k-init : goal.loop-k-init
+unfolding table_up_to
+loop-k-init c = refl
+
+pub bounds-net-k : goal.bounds-net-k
+bounds-net-k c = (places (goal.at.bounds-net-k c).In-loop-k).0
+
+pub bounds-net-k-in-loop-k : goal.bounds-net-k-in-loop-k
+bounds-net-k-in-loop-k c = (places (goal.at.bounds-net-k-in-loop-k c).In-loop-k).0
+
+pub overflow_mul-k : goal.overflow_mul-k
+overflow_mul-k c = omega (arith, places (goal.at.overflow_mul-k c).In-loop-k)
+
+pub put_arc-requires : goal.put_arc-requires
+put_arc-requires c = omega (arith, places (goal.at.put_arc-requires c).In-loop-k)
+
+pub overflow_mul-k-in-loop-k : goal.overflow_mul-k-in-loop-k
+overflow_mul-k-in-loop-k c = omega (arith, places (goal.at.overflow_mul-k-in-loop-k c).In-loop-k)
+
+pub overflow_add-k : goal.overflow_add-k
+overflow_add-k c = omega (arith, places (goal.at.overflow_add-k c).In-loop-k)
+
+pub put_arc-requires-in-loop-k : goal.put_arc-requires-in-loop-k
+put_arc-requires-in-loop-k c = omega (arith, places (goal.at.put_arc-requires-in-loop-k c).In-loop-k)
+
+pub loop-k-preserved : goal.loop-k-preserved
+unfolding table_up_to
+loop-k-preserved c =
+    let l = c.loop-k in
+    rw (add-one, c.put_arc-in-loop-k.ensures, c.put_arc.ensures, l.invariant)
+
+pub returns : goal.returns
+returns c =
+    let l = c.loop-k in
+    let e : l.k ≡ c.args.net.links = omega arith in
+    rw e at l.invariant
