@@ -6,5 +6,3 @@ pub mod Checks
 pub mod Conditions
 -- what contracts of single functions cite
 pub mod code
-
--- worked examples

@@ -3,5 +3,5 @@
 pub mod PairReply
 pub mod Made
 pub mod Lent
--- what is shown: demand 3 of such a plan; 19 for memory that is no sound plan; the claim of such a record
+-- what theorems are stated with: such calls as a run
 pub mod Held

@@ -1,4 +1,2 @@
 -- what contracts of the code cite: what each function does to the arrays
 pub mod code
-
--- worked examples

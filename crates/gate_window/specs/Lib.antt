@@ -5,7 +5,6 @@ pub mod Reading
 pub mod Run
 pub mod Machine
 pub mod Claims
--- what is shown: demand 1 of a reading, and the claim over every list
+-- what the window shows, and the table of checks in words
 pub mod Shows
-
--- worked examples
+pub mod Numbers

@@ -1,6 +1,4 @@
 -- definitions: what is printed for a file
 pub mod Listing
--- what is shown: the lines of an accepted file are right; a file's front is enough
+-- what is claimed of them
 pub mod Shown
-
--- worked examples

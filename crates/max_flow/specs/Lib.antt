@@ -2,8 +2,5 @@
 pub mod LeastCut
 pub mod LargestFlow
 pub mod GrowingFlow
--- what is shown: that these answers are what their names say
 -- what contracts of the code cite: residual capacities, search, push, sender, the augmenting loop
 pub mod code
-
--- worked examples

@@ -2,10 +2,8 @@
 pub mod Cut
 pub mod FirstWord
 pub mod Lawful
--- what is shown: the least minimum cut, maximum flows and minimum cuts, Gusfield's step
+-- what theorems are stated with: a saturating flow, the invariant of Gusfield's step
 pub mod StrongDuality
 pub mod GusfieldTree
 -- what contracts of the code above cite: residual form, arcs
 pub mod code
-
--- worked examples

@@ -4,5 +4,3 @@ pub mod Refusals
 pub mod Network
 -- what contracts of the code cite: each node's own arcs
 pub mod code
-
--- worked examples

@@ -3,9 +3,7 @@ pub mod Number
 pub mod Reading
 pub mod Writing
 pub mod Faults
--- what is shown: one file for a network, refusals exactly for faults
+-- what is claimed: one file for a network, refusals exactly for faults, a front that is enough
 pub mod Files
 -- what contracts of the code cite
 pub mod code
-
--- worked examples: the readings of files

@@ -2,5 +2,3 @@
 pub mod Text
 -- what contracts of the code cite: the text filled from the right
 pub mod code
-
--- worked examples

@@ -1,27 +1,18 @@
--- Demand 1, for a reading: each number of its checks is given under its condition and no other, of every record; a
--- refusal leaves the record and shows four spaces. Number 20 is given by a reading alone.
-use Rattle.std.specs.Prelude.{ℕ, zero, suc, ◌≤◌, ◌<◌, ◌≡◌, ◌≢◌, replicate}
+-- What holds of the definitions of specs/Numbers.antt.
+use Rattle.std.specs.Prelude.{ℕ, zero, suc, ◌≡◌, ◌≢◌, replicate}
 use Rattle.std.proofs.Math.Path.{refl, ap}
 use Rattle.std.proofs.Common.{sym, ◌∙◌, arith}
 use Rattle.base.specs.Checks.{accepted}
-use Rattle.base.specs.Conditions.{Meaning, end, means, Numbered}
-use Rattle.base.proofs.laws.ChecksLaws.{positive, numbered, number_kept, refused_by, below, not_below}
-use Rattle.network.specs.Refusals.{too_many_readings}
+use Rattle.base.specs.Conditions.{Numbered}
+use Rattle.base.proofs.laws.ChecksLaws.{positive, numbered, number_kept, refused_by}
 use Rattle.plan.specs.Calls.{headroom_of}
-use Rattle.plan.proofs.theorems.Numbers.{headroom_table}
 use Rattle.plan.specs.declared.Plan.{Plan}
 use Rattle.gate_window.specs.Shown.{window_width}
-use Rattle.gate_window.specs.Reading.{max_readings, reading_rows, reading_number, read, not_read, reading_of}
+use Rattle.gate_window.specs.Reading.{reading_number, read, not_read, reading_of}
 use Rattle.gate_window.proofs.laws.ReadingLaws.{not_read_lem}
 use Rattle.gate_window.specs.declared.Window.{Window}
 use Rattle.gate_window.specs.declared.Updated.{Updated}
-
--- the headroom's rows, then the record's own
-abbrev pub reading_table : (p : Plan) (count s t demand : ℕ) → Meaning (reading_rows p count s t demand)
-reading_table p count s t demand =
-    headroom_table p s t demand
-    (means too_many_readings (max_readings ≤ count) (count < max_readings) (not_below count max_readings)
-    (below count max_readings) end)
+use Rattle.gate_window.specs.Numbers.{reading_table}
 
 module _ (p : Plan) (w : Window) (s t demand : ℕ) where
   abbrev e : ℕ

@@ -1,35 +1,30 @@
 -- What holds of the definitions of specs/Numbers.antt.
-use Prim.Native.Nat.{ℕ, zero, suc, ◌+◌, ◌-◌, ◌≤◌, ◌<◌}
-use Rattle.std.specs.Prelude.{◌≡◌, ◌≢◌, ◌↔◌, true, false, List, ◌++◌, replicate, ℤ, pos}
+use Prim.Native.Nat.{ℕ, zero, suc, ◌+◌, ◌-◌, ◌≤◌}
+use Rattle.std.specs.Prelude.{◌≡◌, ◌≢◌, ◌↔◌, List, ◌++◌, replicate, ℤ, pos}
 use Rattle.std.proofs.Math.Path.{refl, sym, ap}
 use Rattle.std.proofs.Common.{subst₂, ◌∙◌}
 use native.Mathlib.Omega.{arith}
 use Rattle.std.proofs.Math.ListN.{length, drop}
 use Rattle.std.proofs.Math.Seq.{sets-eq}
-use Rattle.base.specs.Checks.{Row, accepted}
-use Rattle.base.specs.Conditions.{Meaning, end, means, Numbered}
-use Rattle.base.proofs.laws.ChecksLaws.{positive, numbered, number_kept, refused_by, holding, failing, above, not_above}
-use Rattle.base.proofs.laws.ChecksLaws.{below, not_below, equal, not_equal, unequal, not_unequal, both_below}
-use Rattle.base.proofs.laws.ChecksLaws.{one_not_below}
-use Rattle.network.specs.Limits.{max_capacity}
-use Rattle.network.specs.Refusals.{no_such_link, capacity_too_large, stack_full, nothing_to_undo, no_such_node, same_node}
-use Rattle.network.specs.Refusals.{flow_length, demand_too_large, buffer_too_short, not_sound}
+use Rattle.base.specs.Checks.{accepted}
+use Rattle.base.specs.Conditions.{end, Numbered}
+use Rattle.base.proofs.laws.ChecksLaws.{positive, numbered, number_kept, refused_by}
 use Rattle.network_file.specs.Faults.{Fault}
 use Rattle.network_file.proofs.theorems.Files.{refusals}
 use Rattle.network_file.specs.Reading.{read_file}
 use Rattle.network_file.specs.Writing.{file_of}
 use Rattle.cut_tree.proofs.theorems.Rebuilds.{rebuilt_most}
-use Rattle.cut_tree.specs.Path.{pair_rows, answer, number_of}
+use Rattle.cut_tree.specs.Path.{answer, number_of}
 use Rattle.cut_tree.specs.declared.PairAnswer.TheVariants.{Refused}
 use Rattle.text.specs.Text.{text_width}
 use Rattle.base.specs.Basics.{at}
-use Rattle.plan.specs.Plan.{max_depth, sound, push, pop, no_plan}
-use Rattle.plan.specs.Calls.{max_demand, fresh, not_opened, open_of, change_rows, undo_rows, change_number, undo_number}
-use Rattle.plan.specs.Calls.{altered, unaltered, changed, undone, change_of, undo_of, node_rows, pair_number, pair_of}
-use Rattle.plan.specs.Calls.{no_preview, preview_of, preview_rows, preview_number}
+use Rattle.plan.specs.Plan.{push, pop, no_plan}
+use Rattle.plan.specs.Calls.{fresh, not_opened, open_of, change_number, undo_number}
+use Rattle.plan.specs.Calls.{altered, unaltered, changed, undone, change_of, undo_of, pair_number, pair_of}
+use Rattle.plan.specs.Calls.{no_preview, preview_of, preview_number}
 use Rattle.plan.proofs.laws.PreviewLaws.{shown, preview_is}
-use Rattle.plan.specs.Calls.{flow_rows, flow_number, Flowed, headroom_rows, headroom_number, no_headroom, headroom_of}
-use Rattle.plan.specs.Calls.{write_rows, write_number, not_written, write_of, written_to}
+use Rattle.plan.specs.Calls.{flow_number, Flowed, headroom_number, no_headroom, headroom_of}
+use Rattle.plan.specs.Calls.{write_number, not_written, write_of, written_to}
 use Rattle.plan.specs.declared.Stack.{Stack}
 use Rattle.plan.specs.declared.Plan.{Plan}
 use Rattle.plan.specs.declared.Opening.{Opening}
@@ -37,7 +32,7 @@ use Rattle.plan.specs.declared.Changed.{Changed}
 use Rattle.plan.specs.declared.PreviewReply.{PreviewReply}
 use Rattle.plan.specs.declared.HeadroomReply.{HeadroomReply}
 use Rattle.plan.specs.declared.Written.{Written}
-use Rattle.plan.specs.Numbers.{AreNodes}
+use Rattle.plan.specs.Numbers.{change_table, undo_table, node_table, preview_table, flow_table, headroom_table, write_table}
 
 -- ---- change
 count_most : (p : Plan) (e k c : ℕ) (stack : Stack)
@@ -45,16 +40,6 @@ count_most : (p : Plan) (e k c : ℕ) (stack : Stack)
 unfolding altered
 count_most p zero k c stack = rebuilt_most p.network p.steps k c
 count_most p (suc e) k c stack = omega arith
-
--- the rows of a change, and the table of those behind them
-abbrev pub change_table : (p : Plan) (k c : ℕ) {rs : List Row} → Meaning rs → Meaning (change_rows p k c rs)
-change_table p k c later =
-    means not_sound (sound p ≡ false) (sound p ≡ true) (failing (sound p)) (holding (sound p))
-    (means no_such_link (p.network.links ≤ k) (k < p.network.links) (not_below k p.network.links)
-    (below k p.network.links)
-    (means capacity_too_large (max_capacity < c) (c ≤ max_capacity) (above max_capacity c) (not_above max_capacity c)
-    (means stack_full (p.stack.depth ≡ max_depth) (p.stack.depth ≢ max_depth) (equal _ _) (not_equal _ _)
-    later)))
 
 module _ (p : Plan) (k c : ℕ) where
   change_is : (change_of p k c).number ≡ change_number p k c
@@ -79,13 +64,6 @@ module _ (p : Plan) (k c : ℕ) where
   unfolding change_of
   change_most = count_most p (change_number p k c) k c (push p.stack k (at p.network.capacity k))
 
--- ---- undo
-abbrev pub undo_table : (p : Plan) → Meaning (undo_rows p)
-undo_table p =
-    means not_sound (sound p ≡ false) (sound p ≡ true) (failing (sound p)) (holding (sound p))
-    (means nothing_to_undo (p.stack.depth ≡ 0) (p.stack.depth ≢ 0) (equal _ _) (not_equal _ _)
-    end)
-
 module _ (p : Plan) where
   undo_is : (undo_of p).number ≡ undo_number p
   unfolding undo_of altered
@@ -108,20 +86,6 @@ module _ (p : Plan) where
       let top = p.stack.depth - 1 in
       count_most p (undo_number p) (at p.stack.link top) (at p.stack.capacity top) (pop p.stack)
 
--- the rows of two nodes, and the table of those behind them
-abbrev pub pair_table : (p : Plan) (s t : ℕ) {rs : List Row} → Meaning rs
-    → Meaning (pair_rows p.network.nodes s t rs)
-pair_table p s t later =
-    let n = p.network.nodes in
-    means no_such_node (¬ (AreNodes p s t)) (AreNodes p s t) (one_not_below s t n) (both_below s t n)
-    (means same_node (s ≡ t) (s ≢ t) (equal s t) (not_equal s t)
-    later)
-
--- those of a call for two nodes
-abbrev pub node_table : (p : Plan) (s t : ℕ) {rs : List Row} → Meaning rs → Meaning (node_rows p s t rs)
-node_table p s t later =
-    means not_sound (sound p ≡ false) (sound p ≡ true) (failing (sound p)) (holding (sound p)) (pair_table p s t later)
-
 module _ (p : Plan) (s t : ℕ) where
   pair_is : number_of (pair_of p s t) ≡ pair_number p s t
   unfolding pair_of answer
@@ -137,10 +101,6 @@ module _ (p : Plan) (s t : ℕ) where
   pair_refused d =
       refused_by (pair_number p s t) (answer p.tree p.network.nodes s t) Refused (rw pair_is at d)
       ∙ ap Refused (sym pair_is)
-
--- ---- preview: the change's rows, then the pair's
-abbrev pub preview_table : (p : Plan) (k c s t : ℕ) → Meaning (preview_rows p k c s t)
-preview_table p k c s t = change_table p k c (pair_table p s t end)
 
 module _ (p : Plan) (k c s t : ℕ) where
   preview_number_lem : number_of (preview_of p k c s t).answer ≡ preview_number p k c s t
@@ -169,12 +129,6 @@ module _ (p : Plan) (k c s t : ℕ) where
       go zero = rebuilt_most p.network p.steps k c
       go (suc e) = omega arith
 
--- ---- flow: the number that its contract gives, and the buffer before and behind it
-abbrev pub flow_table : (p : Plan) (s t size : ℕ) → Meaning (flow_rows p s t size)
-flow_table p s t size =
-    let m = p.network.links in
-    node_table p s t (means flow_length (size ≢ m) (size ≡ m) (unequal size m) (not_unequal size m) end)
-
 module _ (p : Plan) (s t : ℕ) (before : List ℤ) (number : ℕ) (behind : List ℤ)
     (f : Flowed p s t before number behind) where
   pub flow_numbered : Numbered (flow_table p s t (length before)) number
@@ -183,15 +137,6 @@ module _ (p : Plan) (s t : ℕ) (before : List ℤ) (number : ℕ) (behind : Lis
 
   pub flow_refused : number ≢ 0 → behind ≡ before
   flow_refused = f.untouched
-
--- ---- headroom
--- the rows of a headroom, and the table of those behind them
-abbrev pub headroom_table : (p : Plan) (s t demand : ℕ) {rs : List Row} → Meaning rs
-    → Meaning (headroom_rows p s t demand rs)
-headroom_table p s t demand later =
-    node_table p s t
-    (means demand_too_large (max_demand < demand) (demand ≤ max_demand) (above max_demand demand)
-    (not_above max_demand demand) later)
 
 module _ (p : Plan) (s t demand : ℕ) where
   pub headroom_is : (headroom_of p s t demand).number ≡ headroom_number p s t demand
@@ -211,14 +156,6 @@ module _ (p : Plan) (s t demand : ℕ) where
       let e : headroom_of p s t demand ≡ no_headroom (headroom_number p s t demand) =
       refused_by (headroom_number p s t demand) _ no_headroom (rw headroom_is at d) in
       rw e (refl, refl)
-
--- ---- writing
-abbrev pub write_table : (p : Plan) (size : ℕ) → Meaning (write_rows p size)
-write_table p size =
-    let file = length (file_of p.network) in
-    means not_sound (sound p ≡ false) (sound p ≡ true) (failing (sound p)) (holding (sound p))
-    (means buffer_too_short (size < file) (file ≤ size) (above size file) (not_above size file)
-    end)
 
 module _ (p : Plan) (buffer : List ℕ) where
   write_is : (write_of p (length buffer)).number ≡ write_number p (length buffer)
