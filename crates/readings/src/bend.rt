@@ -6,6 +6,7 @@ use crate::print::put;
 use cut_tree::{Edge, Steps, Tree};
 use network::{MAX_LINKS, MAX_NODES, Network};
 use plan::{MAX_DEPTH, Plan, Stack};
+use std::io;
 
 fn bend_network(net: Network, field: u8, i: usize, value: u32) -> Network {
     let mut bent = net;
@@ -73,19 +74,19 @@ fn bend_lightest(edge: Edge, field: u8, value: u32) -> Edge {
     bent
 }
 
-pub fn bend(plan: Plan, field: u8, given: Given) -> Plan {
+pub fn bend(rt: &impl Print, plan: Plan, field: u8, given: Given) -> io::Result<Plan> {
     let i = given.second as usize;
     let network = bend_network(plan.network, field, i, given.third);
     let tree = bend_tree(plan.tree, field, i, given.third);
     let steps = bend_steps(plan.steps, field, i, given.third);
     let stack = bend_stack(plan.stack, field, i, given.third);
     let lightest = bend_lightest(plan.lightest, field, given.third);
-    put(b" set");
-    Plan {
+    put(rt, b" set")?;
+    Ok(Plan {
         network,
         tree,
         steps,
         stack,
         lightest,
-    }
+    })
 }

@@ -2,58 +2,59 @@
 use crate::line::Given;
 use crate::print::{put_number, put_refusal};
 use plan::{Changed, Plan};
+use std::io;
 
 // A reply: its refusal number, if it has one, and its count.
-fn reply(changed: Changed) -> Plan {
+fn reply(rt: &impl Print, changed: Changed) -> io::Result<Plan> {
     if changed.number != 0 {
-        put_refusal(changed.number);
+        put_refusal(rt, changed.number)?;
     }
-    put_number(b" not kept ", changed.count as u64);
-    changed.plan
+    put_number(rt, b" not kept ", changed.count as u64)?;
+    Ok(changed.plan)
 }
 
 // `change LINK CAPACITY`
-pub fn change(plan: Plan, given: Given) -> Plan {
-    reply(plan::change(plan, given.first as usize, given.second))
+pub fn change(rt: &impl Print, plan: Plan, given: Given) -> io::Result<Plan> {
+    reply(rt, plan::change(plan, given.first as usize, given.second))
 }
 
 // `undo`
-pub fn undo(plan: Plan) -> Plan {
-    reply(plan::undo(plan))
+pub fn undo(rt: &impl Print, plan: Plan) -> io::Result<Plan> {
+    reply(rt, plan::undo(plan))
 }
 
 // After so many turns, the first refusal.
-fn ended(turns: u64, changed: Changed) -> Plan {
-    put_number(b" turns ", turns);
-    reply(changed)
+fn ended(rt: &impl Print, turns: u64, changed: Changed) -> io::Result<Plan> {
+    put_number(rt, b" turns ", turns)?;
+    reply(rt, changed)
 }
 
 // `repeat LINK CAPACITY`: the same change until one is refused.
-pub fn repeat(plan: Plan, given: Given) -> Plan {
+pub fn repeat(rt: &impl Print, plan: Plan, given: Given) -> io::Result<Plan> {
     let k = given.first as usize;
     let c = given.second;
     let mut now = plan;
     for turns in 0..100 {
         let changed = plan::change(now, k, c);
         if changed.number != 0 {
-            return ended(turns, changed);
+            return ended(rt, turns, changed);
         }
         let next = changed.plan;
         now = next;
     }
-    now
+    Ok(now)
 }
 
 // `drain`: undo until it is refused.
-pub fn drain(plan: Plan) -> Plan {
+pub fn drain(rt: &impl Print, plan: Plan) -> io::Result<Plan> {
     let mut now = plan;
     for turns in 0..100 {
         let changed = plan::undo(now);
         if changed.number != 0 {
-            return ended(turns, changed);
+            return ended(rt, turns, changed);
         }
         let next = changed.plan;
         now = next;
     }
-    now
+    Ok(now)
 }

@@ -5,6 +5,7 @@ use crate::line::Given;
 use crate::print::{put, put_number, put_refusal, size};
 use network::{MAX_LINKS, Network};
 use plan::Plan;
+use std::io;
 
 // A buffer has one place more than links: what each holds before a call.
 const PLACES: usize = MAX_LINKS + 1;
@@ -80,15 +81,15 @@ fn outgoing(
     total
 }
 
-fn put_balance(net: Network, flow: &[i32; PLACES], x: usize) {
+fn put_balance(rt: &impl Print, net: Network, flow: &[i32; PLACES], x: usize) -> io::Result<()> {
     let a = net.a;
     let b = net.b;
     let leaves = outgoing(&a, &b, flow, net.links, x);
     let enters = outgoing(&b, &a, flow, net.links, x);
     if leaves < enters {
-        put_number(b" -", enters - leaves);
+        put_number(rt, b" -", enters - leaves)
     } else {
-        put_number(b" ", leaves - enters);
+        put_number(rt, b" ", leaves - enters)
     }
 }
 
@@ -111,17 +112,18 @@ fn overfull(net: Network, flow: &[i32; PLACES]) -> u64 {
     count
 }
 
-fn put_balances(net: Network, flow: &[i32; PLACES]) {
+fn put_balances(rt: &impl Print, net: Network, flow: &[i32; PLACES]) -> io::Result<()> {
     let n = net.nodes;
     for x in 0..n {
-        put_balance(net, flow, x);
+        put_balance(rt, net, flow, x)?;
     }
+    Ok(())
 }
 
-fn put_flow(net: Network, flow: &[i32; PLACES]) {
-    put(b" balances");
-    put_balances(net, flow);
-    put_number(b" over ", overfull(net, flow));
+fn put_flow(rt: &impl Print, net: Network, flow: &[i32; PLACES]) -> io::Result<()> {
+    put(rt, b" balances")?;
+    put_balances(rt, net, flow)?;
+    put_number(rt, b" over ", overfull(net, flow))
 }
 
 // How many places hold what they held before.
@@ -133,13 +135,13 @@ fn unaltered(flow: &[i32; PLACES]) -> u64 {
     count
 }
 
-pub fn flow(plan: Plan, given: Given) {
+pub fn flow(rt: &impl Print, plan: Plan, given: Given) -> io::Result<()> {
     let mut out = [BEFORE; PLACES];
     let number = flow_into(plan, given, &mut out);
     if number == 0 {
-        put_flow(plan.network, &out);
+        put_flow(rt, plan.network, &out)
     } else {
-        put_refusal(number);
-        put_number(b" unaltered ", unaltered(&out));
+        put_refusal(rt, number)?;
+        put_number(rt, b" unaltered ", unaltered(&out))
     }
 }

@@ -4,6 +4,7 @@ use crate::line::{Given, behind, number, signed};
 use crate::print::{put, put_number, put_refusal, put_signed};
 use gate_window::{Window, WindowReply};
 use plan::Plan;
+use std::io;
 
 // The record behind the first three arguments.
 fn record(line: &[u8], arguments: usize) -> Window {
@@ -18,25 +19,31 @@ fn record(line: &[u8], arguments: usize) -> Window {
     }
 }
 
-fn put_reply(reply: WindowReply) {
+fn put_reply(rt: &impl Print, reply: WindowReply) -> io::Result<()> {
     let text = reply.text;
     if reply.number != 0 {
-        put_refusal(reply.number);
+        put_refusal(rt, reply.number)?;
     }
-    put(b" [");
-    put(&text);
-    put(b"]");
+    put(rt, b" [")?;
+    put(rt, &text)?;
+    put(rt, b"]")
 }
 
-fn put_record(w: Window) {
-    put(b" last");
-    put_signed(w.last);
-    put(b" lowest");
-    put_signed(w.lowest);
-    put_number(b" count ", w.count as u64);
+fn put_record(rt: &impl Print, w: Window) -> io::Result<()> {
+    put(rt, b" last")?;
+    put_signed(rt, w.last)?;
+    put(rt, b" lowest")?;
+    put_signed(rt, w.lowest)?;
+    put_number(rt, b" count ", w.count as u64)
 }
 
-pub fn reading(plan: Plan, given: Given, line: &[u8], arguments: usize) {
+pub fn reading(
+    rt: &impl Print,
+    plan: Plan,
+    given: Given,
+    line: &[u8],
+    arguments: usize,
+) -> io::Result<()> {
     let after = gate_window::after_reading(
         plan,
         record(line, arguments),
@@ -44,6 +51,6 @@ pub fn reading(plan: Plan, given: Given, line: &[u8], arguments: usize) {
         given.second as usize,
         given.third,
     );
-    put_reply(after.reply);
-    put_record(after.window);
+    put_reply(rt, after.reply)?;
+    put_record(rt, after.window)
 }

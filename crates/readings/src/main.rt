@@ -15,73 +15,103 @@ mod print; // words, numbers and bytes
 mod show; // commands that show the plan: tree, edge, steps, network
 mod writing; // the commands write, and again, which opens what is written
 
+ghost use Rattle.std.specs.Prelude.{◌≤◌, length, IfOk};
+
 use line::Given;
 use plan::Plan;
+use std::io;
+use std::io::Read;
+
+// So many bytes of the input are read.
+const MAX_INPUT: usize = 65536;
 
 // Does what a command that leaves the plan as it is says.
-fn tell(plan: Plan, command: u8, given: Given, line: &[u8], arguments: usize) {
+fn tell(
+    rt: &impl Print,
+    plan: Plan,
+    command: u8,
+    given: Given,
+    line: &[u8],
+    arguments: usize,
+) -> io::Result<()> {
     match command {
-        b't' => show::tree(plan),
-        b'e' => show::edge(plan),
-        b's' => show::steps(plan),
-        b'n' => show::network(plan),
-        b'p' => answers::pair(plan, given),
-        b'v' => answers::preview(plan, given),
-        b'h' => answers::headroom(plan, given),
-        b'f' => flows::flow(plan, given),
-        b'g' => gate::reading(plan, given, line, arguments),
-        b'w' => writing::write(plan, given),
-        _ => print::put(b" no command"),
+        b't' => show::tree(rt, plan),
+        b'e' => show::edge(rt, plan),
+        b's' => show::steps(rt, plan),
+        b'n' => show::network(rt, plan),
+        b'p' => answers::pair(rt, plan, given),
+        b'v' => answers::preview(rt, plan, given),
+        b'h' => answers::headroom(rt, plan, given),
+        b'f' => flows::flow(rt, plan, given),
+        b'g' => gate::reading(rt, plan, given, line, arguments),
+        b'w' => writing::write(rt, plan, given),
+        _ => print::put(rt, b" no command"),
     }
 }
 
 // Does what the command at a place of a line says, and gives the plan that it leaves.
-fn obey(plan: Plan, line: &[u8], place: usize) -> Plan {
+fn obey(rt: &impl Print, plan: Plan, line: &[u8], place: usize) -> io::Result<Plan> {
     let arguments = line::behind(line, place, b' ');
     let given = line::numbers(line, arguments);
     let command = line::byte_at(line, place);
     match command {
-        b'o' => files::open(line, arguments),
-        b'l' => files::open_longest(given),
-        b'm' => files::open_many(given),
-        b'a' => writing::open_again(plan),
-        b'c' => changes::change(plan, given),
-        b'u' => changes::undo(plan),
-        b'r' => changes::repeat(plan, given),
-        b'd' => changes::drain(plan),
-        b'b' => bend::bend(plan, line::byte_at(line, arguments), given),
+        b'o' => files::open(rt, line, arguments),
+        b'l' => files::open_longest(rt, given),
+        b'm' => files::open_many(rt, given),
+        b'a' => writing::open_again(rt, plan),
+        b'c' => changes::change(rt, plan, given),
+        b'u' => changes::undo(rt, plan),
+        b'r' => changes::repeat(rt, plan, given),
+        b'd' => changes::drain(rt, plan),
+        b'b' => bend::bend(rt, plan, line::byte_at(line, arguments), given),
         _ => {
-            tell(plan, command, given, line, arguments);
-            plan
+            tell(rt, plan, command, given, line, arguments)?;
+            Ok(plan)
         }
     }
 }
 
-fn turn(plan: Plan, line: &[u8]) -> Plan {
-    print::put(line);
-    print::put(b" ->");
+fn turn(rt: &impl Print, plan: Plan, line: &[u8]) -> io::Result<Plan> {
+    print::put(rt, line)?;
+    print::put(rt, b" ->")?;
     let label = line::behind(line, 0, b':');
-    let next = obey(plan, line, line::behind(line, label, b' '));
-    print::put(b"\n");
-    next
+    let next = obey(rt, plan, line, line::behind(line, label, b' '))?;
+    print::put(rt, b"\n")?;
+    Ok(next)
 }
 
-fn run(text: &[u8]) {
+fn run(rt: &impl Print, text: &[u8]) -> io::Result<()> {
     let mut plan = plan::open(b"").plan;
     let mut start = 0;
     while start < text.len() {
         let end = line::find(text, start, b'\n');
-        let next = turn(plan, &text[start..end]);
+        let next = turn(rt, plan, &text[start..end])?;
         plan = next;
         if end == text.len() {
-            return;
+            return Ok(());
         }
         start = end + 1;
     }
+    Ok(())
 }
 
-fn main() {
-    let mut input = io::large_buffer();
-    let n = io::read_full(0, &mut input);
-    run(&input[..n]);
+// Reads until the buffer is full or the input ends, and gives how many bytes were read.
+fn read_full(input: &mut impl Read, buffer: &mut [u8]) -> io::Result<usize>
+    ensures { IfOk result (λ n. n ≤ length buffer.new) }
+{
+    let mut done = 0;
+    while done < buffer.len() {
+        let n = input.read(&mut buffer[done..])?;
+        if n == 0 {
+            break;
+        }
+        done += n;
+    }
+    Ok(done)
+}
+
+fn main(rt: HostRuntime) -> io::Result<()> {
+    let mut input = [0u8; MAX_INPUT];
+    let n = read_full(&mut rt.stdin(), &mut input)?;
+    run(&rt, &input[..n])
 }

@@ -1,13 +1,14 @@
 // Words, numbers and bytes.
+use std::io;
 
-pub fn put(text: &[u8]) {
-    io::write_all(1, text);
+pub fn put(rt: &impl Print, text: &[u8]) -> io::Result<()> {
+    rt.write_all(text)
 }
 
 // Words and a number behind them.
-pub fn put_number(words: &[u8], number: u64) {
-    put(words);
-    io::print_decimal(1, number);
+pub fn put_number(rt: &impl Print, words: &[u8], number: u64) -> io::Result<()> {
+    put(rt, words)?;
+    print!(rt; "{number}")
 }
 
 // The size of a signed number: at -(n + 1) the complement is n.
@@ -18,26 +19,27 @@ pub fn size(z: i32) -> u32 {
     z as u32
 }
 
-pub fn put_signed(z: i32) {
+pub fn put_signed(rt: &impl Print, z: i32) -> io::Result<()> {
     if z < 0 {
-        put_number(b" -", size(z) as u64);
+        put_number(rt, b" -", size(z) as u64)
     } else {
-        put_number(b" ", size(z) as u64);
+        put_number(rt, b" ", size(z) as u64)
     }
 }
 
-fn put_byte(byte: u8) {
-    put(b" ");
-    io::print_hex(1, byte as u64, 2);
+fn put_byte(rt: &impl Print, byte: u8) -> io::Result<()> {
+    put(rt, b" ")?;
+    print!(rt; "{byte:02x}")
 }
 
 // Bytes, each in two digits.
-pub fn put_bytes(bytes: &[u8]) {
+pub fn put_bytes(rt: &impl Print, bytes: &[u8]) -> io::Result<()> {
     for i in 0..bytes.len() {
-        put_byte(bytes[i]);
+        put_byte(rt, bytes[i])?;
     }
+    Ok(())
 }
 
-pub fn put_refusal(number: u32) {
-    put_number(b" refused ", number as u64);
+pub fn put_refusal(rt: &impl Print, number: u32) -> io::Result<()> {
+    put_number(rt, b" refused ", number as u64)
 }

@@ -20,14 +20,16 @@ mod tally; // counts
 mod trees; // trees and changes
 mod windows; // a gate's readings
 
-fn main() {
-    tally::print(b"flow", flows::try_flows(1000));
-    tally::print(b"tree", trees::try_trees(300));
+use std::io;
+
+fn main(rt: HostRuntime) -> io::Result<()> {
+    tally::print(&rt, b"flow", flows::try_flows(1000))?;
+    tally::print(&rt, b"tree", trees::try_trees(300))?;
     let plans = plans::try_plans(100);
-    tally::print(b"plan", plans);
-    tally::print_refusals(b"refusals", plans.numbers);
-    tally::print_refusals(b"refusals of previews", plans.preview_numbers);
+    tally::print(&rt, b"plan", plans)?;
+    tally::print_refusals(&rt, b"refusals", plans.numbers)?;
+    tally::print_refusals(&rt, b"refusals of previews", plans.preview_numbers)?;
     let windows = windows::try_windows(400);
-    tally::print(b"window", windows);
-    tally::print_refusals(b"refusals of readings", windows.numbers);
+    tally::print(&rt, b"window", windows)?;
+    tally::print_refusals(&rt, b"refusals of readings", windows.numbers)
 }

@@ -1,5 +1,5 @@
 // What was compared, and how often it disagreed. The counts stay far below 2^64.
-use libc::STDOUT_FILENO;
+use std::io;
 use std::num::wrapping_add_u64;
 
 #[derive(Clone, Copy)]
@@ -101,43 +101,40 @@ pub fn count_pair(t: Tally, right: bool) -> Tally {
 }
 
 // " 12 things", where there are any
-fn print_count(n: u64, what: &[u8]) {
+fn print_count(rt: &impl Print, n: u64, what: &[u8]) -> io::Result<()> {
     if n == 0 {
-        return;
+        return Ok(());
     }
-    io::write_all(STDOUT_FILENO, b" ");
-    io::print_decimal(STDOUT_FILENO, n);
-    io::write_all(STDOUT_FILENO, what);
+    print!(rt; " {n}")?;
+    rt.write_all(what)
 }
 
-pub fn print(name: &[u8], t: Tally) {
-    io::write_all(STDOUT_FILENO, name);
-    print_count(t.networks, b" networks");
-    print_count(t.changes, b" changes");
-    print_count(t.lists, b" lists");
-    print_count(t.calls, b" calls");
-    print_count(t.previews, b" previews");
-    print_count(t.refused_previews, b" refused previews");
-    print_count(t.readings, b" readings");
-    print_count(t.refused_readings, b" refused readings");
-    print_count(t.pairs, b" pairs");
-    io::write_all(STDOUT_FILENO, b" ");
-    io::print_decimal(STDOUT_FILENO, t.wrong);
-    io::write_all(STDOUT_FILENO, b" disagreements\n");
+pub fn print(rt: &impl Print, name: &[u8], t: Tally) -> io::Result<()> {
+    rt.write_all(name)?;
+    print_count(rt, t.networks, b" networks")?;
+    print_count(rt, t.changes, b" changes")?;
+    print_count(rt, t.lists, b" lists")?;
+    print_count(rt, t.calls, b" calls")?;
+    print_count(rt, t.previews, b" previews")?;
+    print_count(rt, t.refused_previews, b" refused previews")?;
+    print_count(rt, t.readings, b" readings")?;
+    print_count(rt, t.refused_readings, b" refused readings")?;
+    print_count(rt, t.pairs, b" pairs")?;
+    println!(rt; " {} disagreements", t.wrong)
 }
 
-fn print_number(numbers: u32, e: u32) {
+fn print_number(rt: &impl Print, numbers: u32, e: u32) -> io::Result<()> {
     if (numbers >> (e % 32)) % 2 == 1 {
-        io::write_all(STDOUT_FILENO, b" ");
-        io::print_decimal(STDOUT_FILENO, e as u64);
+        print!(rt; " {e}")?;
     }
+    Ok(())
 }
 
 // Words, and the refusal numbers that came.
-pub fn print_refusals(words: &[u8], numbers: u32) {
-    io::write_all(STDOUT_FILENO, words);
+pub fn print_refusals(rt: &impl Print, words: &[u8], numbers: u32) -> io::Result<()> {
+    rt.write_all(words)?;
     for e in 1..32 {
-        print_number(numbers, e);
+        print_number(rt, numbers, e)?;
     }
-    io::write_all(STDOUT_FILENO, b"\n");
+    println!(rt)
 }
