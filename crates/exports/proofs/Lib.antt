@@ -1,5 +1,3 @@
--- what the proofs of src/held.rt and src/window.rt share
-pub mod Records
 -- the contracts are what demand 3 of a held plan is told of
 pub mod Contracts
 -- Theorems: what holds of the definitions of specs/.

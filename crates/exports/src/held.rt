@@ -3,7 +3,8 @@
 // the plan is copied out, and what comes back is stored.
 ghost use Rattle.std.specs.Prelude.{length, ◌≡◌};
 ghost use Rattle.exports.specs.PairReply.{pair_reply};
-ghost use Rattle.plan.specs.Calls.{open_of, change_of, undo_of, pair_of, preview_of, Flowed, headroom_of, write_of, written_to};
+ghost use Rattle.plan.specs.Calls.{open_of, change_of, undo_of, pair_of, preview_of, Flowed};
+ghost use Rattle.plan.specs.Calls.{headroom_of, write_of, written_to};
 
 use cut_tree::PairAnswer;
 use plan::{HeadroomReply, Plan};

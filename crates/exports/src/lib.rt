@@ -7,6 +7,12 @@ mod window; // a gate's record that the caller holds
 ghost use Rattle.std.specs.Prelude.{length, ◌≡◌};
 ghost use Rattle.listing.specs.Listing.{listed_length, listed_to};
 
+pub use crate::held::{
+    PairReply, pamzolit_change, pamzolit_flow, pamzolit_headroom, pamzolit_open, pamzolit_pair,
+    pamzolit_preview, pamzolit_undo, pamzolit_write,
+};
+pub use crate::window::{pamzolit_reading, pamzolit_reset};
+
 // What the program `pairs` prints for a file.
 #[unsafe(no_mangle)]
 pub extern "C" fn pamzolit_listing(file: &[u8], out: &mut [u8]) -> usize

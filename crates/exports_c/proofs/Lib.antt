@@ -1,0 +1,2 @@
+-- the archive's contracts are the library's
+pub mod Contracts

@@ -1,0 +1,2 @@
+-- the archive's contract is the library's
+pub mod Contracts
