@@ -1,6 +1,6 @@
 /* The link plan: how much traffic can run between any two nodes of a network, and which links set that limit.
  *
- * The functions stand in the archive libexports.a, which is written in Rattle and proved: `rt staticlib exports`
+ * The functions stand in the archive libexports.a, which is written in Rattle and proved: `tools/archive exports`
  * proves and writes it. They keep no state and allocate nothing. A plan lives in its caller's memory and is lent to
  * each call, and so does the record of a gate's window:
  *

@@ -1,4 +1,4 @@
-//! Links the proved archive that `rt staticlib exports` writes.
+//! Links the proved archive that `tools/archive exports` writes.
 use std::env;
 use std::path::PathBuf;
 

@@ -1,7 +1,7 @@
 #!/bin/bash
 # Runs the program `pairs` on each file tests/pairs/NAME.in and compares what it prints, byte by byte, with
 # tests/pairs/NAME.out. The expected listings are those of an independent model. Needs `target/bin/pairs`, which
-# `rt check pairs` builds.
+# `tools/program pairs` builds.
 set -uo pipefail
 cd "$(dirname "$0")/.."
 program=target/bin/pairs
