@@ -21,8 +21,8 @@ abbrev pub too_many_links : ℕ
 too_many_links = 5
 
 -- an end of a link is no node
-abbrev pub end_not_aNode : ℕ
-end_not_aNode = 6
+abbrev pub end_not_a_node : ℕ
+end_not_a_node = 6
 
 abbrev pub equal_ends : ℕ
 equal_ends = 7

@@ -3,7 +3,7 @@
 use Rattle.std.specs.Prelude.{ℕ, zero, suc, ◌+◌, ◌-◌, ◌*◌, ◌≤◌, ◌<◌, ◌≡◌, ◌≢◌, List, ◌∷◌, length, drop}
 use Rattle.base.specs.Basics.{at}
 use Rattle.network.specs.Refusals.{ends_early, number_too_long, zero_group, bad_node_count, too_many_links}
-use Rattle.network.specs.Refusals.{end_not_aNode, equal_ends, link_too_large, bytes_follow}
+use Rattle.network.specs.Refusals.{end_not_a_node, equal_ends, link_too_large, bytes_follow}
 use Rattle.network.specs.Limits.{max_nodes, max_links, max_capacity, max_groups}
 
 -- ---- each number of the file: t is what is left of the file, and a number has at most `most` groups
@@ -70,8 +70,8 @@ following (capacity n left) c = links_left n left
 pub data Wrong : Field → ℕ → ℕ → Type 0 where
   four : {v : ℕ} → ((1 ≤ v) × (v ≤ max_nodes) → ⊥) → Wrong nodes v bad_node_count
   five : {n v : ℕ} → max_links < v → Wrong (links n) v too_many_links
-  six : {n left v : ℕ} → n ≤ v → Wrong (end n left) v end_not_aNode
-  six_later : {n left a v : ℕ} → n ≤ v → Wrong (other_end n left a) v end_not_aNode
+  six : {n left v : ℕ} → n ≤ v → Wrong (end n left) v end_not_a_node
+  six_later : {n left a v : ℕ} → n ≤ v → Wrong (other_end n left a) v end_not_a_node
   seven : {n left a v : ℕ} → v < n → v ≡ a → Wrong (other_end n left a) v equal_ends
   eight : {n left v : ℕ} → max_capacity < v → Wrong (capacity n left) v link_too_large
 

@@ -2,7 +2,7 @@
 use Rattle.std.specs.Prelude.{ℕ, zero, suc, ◌+◌, not, ◌||◌, List, [], ◌∷◌, length, drop, set, replicate, ltb, eqb}
 use Rattle.base.specs.Basics.{pick}
 use Rattle.base.specs.Checks.{row, chain, accepted, check}
-use Rattle.network.specs.Refusals.{bad_node_count, too_many_links, end_not_aNode, equal_ends, link_too_large, bytes_follow}
+use Rattle.network.specs.Refusals.{bad_node_count, too_many_links, end_not_a_node, equal_ends, link_too_large, bytes_follow}
 use Rattle.network.specs.Limits.{max_nodes, max_links, max_capacity}
 use Rattle.network.specs.Network.{no_network}
 use Rattle.network.specs.declared.Network.{Network}
@@ -22,10 +22,10 @@ links_row m = chain (row (ltb max_links m) too_many_links ∷ [])
 
 -- the rows of a, b and c
 abbrev pub end_row : ℕ → ℕ → ℕ
-end_row n a = chain (row (not (ltb a n)) end_not_aNode ∷ [])
+end_row n a = chain (row (not (ltb a n)) end_not_a_node ∷ [])
 
 abbrev pub other_end_row : ℕ → ℕ → ℕ → ℕ
-other_end_row n a b = chain (row (not (ltb b n)) end_not_aNode ∷ row (eqb b a) equal_ends ∷ [])
+other_end_row n a b = chain (row (not (ltb b n)) end_not_a_node ∷ row (eqb b a) equal_ends ∷ [])
 
 abbrev pub capacity_row : ℕ → ℕ
 capacity_row c = chain (row (ltb max_capacity c) link_too_large ∷ [])

@@ -83,8 +83,8 @@ module _ (G : Net) (i : ℕ) (p w : ℕ → ℕ) (Z : ℕ → Side) (r : ℕ →
     t_ne : t ≢ i
     t_ne = omega (arith, t_lt)
 
-    YFar : (x : ℕ) → 0 < x → p x ≢ t → Y x ≡ Y (p x)
-    YFar x l q = go (ℕ_discrete x t)
+    Y_far : (x : ℕ) → 0 < x → p x ≢ t → Y x ≡ Y (p x)
+    Y_far x l q = go (ℕ_discrete x t)
       where
         go : Dec (x ≡ t) → Y x ≡ Y (p x)
         go (no m) = F.far x l m q
@@ -122,7 +122,7 @@ module _ (G : Net) (i : ℕ) (p w : ℕ → ℕ) (Z : ℕ → Side) (r : ℕ →
 
         go : Dec (x ≡ i) → r₁ (p' x) < r₁ x
         go (yes e) = rw (e, own) (omega (arith, r₁-own, r₁-out t t_ne F.minimum.outside))
-        go (no n) = same x l n (Y x) refl (goes x n) (moved_fitted p' x l (YFar x l) (goes x n))
+        go (no n) = same x l n (Y x) refl (goes x n) (moved_fitted p' x l (Y_far x l) (goes x n))
 
     root₁ : (y : ℕ) → 0 < y → y < suc i → Z₁ y 0 ≡ false
     unfolding Z₁
@@ -142,7 +142,7 @@ module _ (G : Net) (i : ℕ) (p w : ℕ → ℕ) (Z : ℕ → Side) (r : ℕ →
       where
         go : Dec (y ≡ i) → Dec (x ≡ i) → put Z i Y y x ≡ put Z i Y y (p' x)
         go (yes e) (yes f) = absurd (d (f ∙ sym e))
-        go (yes e) (no n) = rw (e, put_same Z i Y) (moved_fitted p' x xl (YFar x xl) (goes x n))
+        go (yes e) (no n) = rw (e, put_same Z i Y) (moved_fitted p' x xl (Y_far x xl) (goes x n))
         go (no n) (yes f) = rw (put_other Z i Y y n, f, own) (beside y l (omega arith))
         go (no n) (no o) = rw (put_other Z i Y y n) (moved_down p' y x l (omega arith) xl d (goes x o))
 
