@@ -12,7 +12,8 @@ use Rattle.exports.specs.Made.{pamzolit_reading, Promise}
 -- caller found behind the call in the memory that it lent: `behind` the record, the reply, and the plan
 pub data Lent : Type 0 where
   pamzolit_reset : (behind : Window) → Lent
-  reading_from : (held : Plan) (s t demand : ℕ) (number : ℕ) (behind : Window) (reply : WindowReply) (plan : Plan) → Lent
+  reading_from : (held : Plan) (s t demand : ℕ) (number : ℕ) (behind : Window)
+      (reply : WindowReply) (plan : Plan) → Lent
 
 -- what is promised, the record's memory holding w before the call
 abbrev pub LentPromise : Window → Lent → Type 0

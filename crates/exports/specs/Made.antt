@@ -2,7 +2,8 @@
 -- These promises are the contracts in src/held.rt and of the reading in src/window.rt: proofs/Contracts.antt shows it
 -- of each of them.
 use Rattle.std.specs.Prelude.{ℕ, ◌≡◌, List, [], ◌∷◌, ◌++◌, length, ℤ}
-use Rattle.plan.specs.Calls.{open_of, change_of, undo_of, pair_of, preview_of, Flowed, headroom_of, write_of, written_to}
+use Rattle.plan.specs.Calls.{open_of, change_of, undo_of, pair_of, preview_of, Flowed, headroom_of, write_of}
+use Rattle.plan.specs.Calls.{written_to}
 use Rattle.history.specs.Machine.{pair, flow, preview, change, undo, ask}
 use Rattle.history.specs.Run.{Event}
 use Rattle.plan.specs.declared.HeadroomReply.{HeadroomReply}

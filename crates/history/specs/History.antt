@@ -137,7 +137,8 @@ pub record Opens (file : List ℕ) (p : Plan) : Type 0 where
 abbrev pub Reopens : Plan → Type 0
 Reopens q =
     (buffer : List ℕ) → length (file_of q.network) ≤ length buffer
-    → ((write_of q (length buffer)).number ≡ 0) × Opens (take (write_of q (length buffer)).length (written_to q buffer)) q
+    → ((write_of q (length buffer)).number ≡ 0)
+    × Opens (take (write_of q (length buffer)).length (written_to q buffer)) q
 
 -- ---- the claim. p: the plan of the opening; q: the plan that the list leaves; x: the machine after the list
 pub record Claims (p q : Plan) (x : State) (es : List Event) : Type 0 where

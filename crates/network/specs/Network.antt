@@ -1,5 +1,6 @@
 -- The network (docs/SCOPE.md, 1): its limits, its cuts and its flows. The paper's house is a node here.
-use Rattle.std.specs.Prelude.{ℕ, ◌≡◌, Bool, true, not, List, [], ◌∷◌, length, get_or, set, replicate, ltb, leb, eqb, ℤ, pos}
+use Rattle.std.specs.Prelude.{ℕ, ◌≡◌, Bool, true, not, List, [], ◌∷◌, length, get_or, set, replicate, ltb, leb, eqb, ℤ}
+use Rattle.std.specs.Prelude.{pos}
 use Rattle.min_cut.specs.Cut.{Net, Side, cut_value}
 use Rattle.min_cut.specs.FirstWord.{least_min_cut}
 use Rattle.base.specs.Word.{holds}

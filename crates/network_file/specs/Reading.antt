@@ -2,7 +2,8 @@
 use Rattle.std.specs.Prelude.{ℕ, zero, suc, ◌+◌, not, ◌||◌, List, [], ◌∷◌, length, drop, set, replicate, ltb, eqb}
 use Rattle.base.specs.Basics.{pick}
 use Rattle.base.specs.Checks.{row, chain, accepted, check}
-use Rattle.network.specs.Refusals.{bad_node_count, too_many_links, end_not_a_node, equal_ends, link_too_large, bytes_follow}
+use Rattle.network.specs.Refusals.{bad_node_count, too_many_links, end_not_a_node, equal_ends, link_too_large}
+use Rattle.network.specs.Refusals.{bytes_follow}
 use Rattle.network.specs.Limits.{max_nodes, max_links, max_capacity}
 use Rattle.network.specs.Network.{no_network}
 use Rattle.network.specs.declared.Network.{Network}
@@ -40,7 +41,8 @@ a_number v next = record { number = 0; value = v; next = next }
 unfoldable pub taken : List ℕ → ℕ → (ℕ → ℕ) → Taken
 taken s place row =
     let r = read_number (drop place s) in
-    accepted (check (ltb 0 (refusal_in r)) (refusal_in r) (row (value_in r))) (a_number (value_in r) (place + size_in r))
+    accepted (check (ltb 0 (refusal_in r)) (refusal_in r) (row (value_in r)))
+    (a_number (value_in r) (place + size_in r))
     (λ e. no_number e place)
 
 -- a number, and on with its value and the next place; or a stop with its refusal number and its place

@@ -53,4 +53,5 @@ file_write_of net size =
     (λ e. record { number = e; length = 0 })
 
 unfoldable pub file_written_to : Network → List ℕ → List ℕ
-file_written_to net buffer = accepted (file_write_number net (length buffer)) (sets buffer 0 (file_of net)) (λ e. buffer)
+file_written_to net buffer = accepted (file_write_number net (length buffer))
+    (sets buffer 0 (file_of net)) (λ e. buffer)

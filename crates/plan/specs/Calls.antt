@@ -175,7 +175,8 @@ abbrev pub not_written : (number : ℕ) → Written
 not_written number = record { number = number; length = 0 }
 
 unfoldable pub write_of : Plan → ℕ → Written
-write_of p size = accepted (write_number p size) (record { number = 0; length = length (file_of p.network) }) not_written
+write_of p size = accepted (write_number p size)
+    (record { number = 0; length = length (file_of p.network) }) not_written
 
 unfoldable pub written_to : Plan → List ℕ → List ℕ
 written_to p buffer = accepted (write_number p (length buffer)) (sets buffer 0 (file_of p.network)) (λ e. buffer)

@@ -12,7 +12,8 @@ use Rattle.base.proofs.laws.ChecksLaws.{holding, failing, above, not_above}
 use Rattle.base.proofs.laws.ChecksLaws.{below, not_below, equal, not_equal, unequal, not_unequal, both_below}
 use Rattle.base.proofs.laws.ChecksLaws.{one_not_below}
 use Rattle.network.specs.Limits.{max_capacity}
-use Rattle.network.specs.Refusals.{no_such_link, capacity_too_large, stack_full, nothing_to_undo, no_such_node, same_node}
+use Rattle.network.specs.Refusals.{no_such_link, capacity_too_large, stack_full, nothing_to_undo, no_such_node}
+use Rattle.network.specs.Refusals.{same_node}
 use Rattle.network.specs.Refusals.{flow_length, demand_too_large, buffer_too_short, not_sound}
 use Rattle.network_file.specs.Writing.{file_of}
 use Rattle.cut_tree.specs.Path.{pair_rows}

@@ -1,6 +1,7 @@
 -- Texts (docs/SCOPE.md, 6): decimal numbers, and a headroom's: twelve bytes, right-aligned with spaces: a minus only
 -- below zero, the whole megabits without leading zeros, a point, one digit of tenths.
-use Rattle.std.specs.Prelude.{ℕ, zero, suc, ◌+◌, ◌-◌, ◌/◌, ◌%◌, ◌^◌, List, [], ◌∷◌, ◌++◌, length, replicate, ltb, ℤ, pos, negsuc, nat_abs}
+use Rattle.std.specs.Prelude.{ℕ, zero, suc, ◌+◌, ◌-◌, ◌/◌, ◌%◌, ◌^◌, List, [], ◌∷◌, ◌++◌, length, replicate, ltb, ℤ}
+use Rattle.std.specs.Prelude.{pos, negsuc, nat_abs}
 use Rattle.base.specs.Basics.{pick}
 
 -- the decimal digits of n without leading zeros, as bytes; at most this many

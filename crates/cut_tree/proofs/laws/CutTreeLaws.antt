@@ -20,7 +20,8 @@ use Rattle.min_cut.proofs.theorems.StrongDuality.{max_flow_min_cut}
 use Rattle.cut_tree.specs.declared.Tree.{Tree}
 
 -- a value that a side between s and t has, and no side undercuts, is the value of a minimum cut and of a maximum flow
-flow_value : (G : Net) (n : ℕ) → Within G n → (s t v : ℕ) → s < n → t < n → s ≢ t → (X : Side) → X s ≡ true → X t ≡ false → cut_value G X ≡ v
+flow_value : (G : Net) (n : ℕ) → Within G n → (s t v : ℕ) → s < n → t < n → s ≢ t → (X : Side)
+    → X s ≡ true → X t ≡ false → cut_value G X ≡ v
     → ((W : Side) → Separates W s t → v ≤ cut_value G W) → FlowValue G n s t v
 flow_value G n w s t v sl tl d X i o e least =
     let m : MinCut G s t X = record { inside = i; outside = o; least = λ W wi wo. omega (arith, least W (wi ∙ sym (ap not wo))) } in

@@ -58,7 +58,8 @@ module _ (net : Network) (x : State) where
 pub padded_set : (cs : List ℕ) (k c : ℕ) → k < length cs → padded (set cs k c) ≡ set (padded cs) k c
 padded_set cs k c l = simp (length-set, set-append_left)
 
-pub network_set : (net : Network) (cs : List ℕ) (k c : ℕ) → k < length cs → network_at net (set cs k c) ≡ with_capacity (network_at net cs) k c
+pub network_set : (net : Network) (cs : List ℕ) (k c : ℕ) → k < length cs → network_at net (set cs k c)
+    ≡ with_capacity (network_at net cs) k c
 network_set net cs k c l = simp (length-set, set-append_left)
 
 -- ---- 19 is not among the numbers

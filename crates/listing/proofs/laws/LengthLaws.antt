@@ -61,7 +61,12 @@ refused_line_lem number place = omega (arith, numbers_length (number ∷ place �
 tree_lines_lem : (tree : Tree) (k : ℕ) → length (tree_lines tree k) ≤ max_line * k
 unfolding tree_lines
 tree_lines_lem tree zero = omega arith
-tree_lines_lem tree (suc k) = omega (arith, tree_lines_lem tree k, tree_line_lem tree (suc k), length-append (tree_lines tree k) (tree_line tree (suc k)))
+tree_lines_lem tree (suc k) = omega (
+  arith,
+  tree_lines_lem tree k,
+  tree_line_lem tree (suc k),
+  length-append (tree_lines tree k) (tree_line tree (suc k)),
+)
 
 pairs_of_lem : (p : Plan) (s k : ℕ) → s < max_nodes → length (pairs_of p s k) ≤ max_line * k
 unfolding pairs_of

@@ -28,7 +28,8 @@ numbers_over : (ns : List ℕ) (k : ℕ) → length ns ≤ k → decimals_of (dr
 unfolding decimals_of
 numbers_over ns k b = rw (drop_of_length-le ns b)
 
-module _ {l : List ℕ} {i : ℕ} (ns : List ℕ) {j : ℕ} (k : ℕ) {m : List ℕ} (h : Owing l i (decimals_of ns) j (decimals_of (drop k ns)) m) where
+module _ {l : List ℕ} {i : ℕ} (ns : List ℕ) {j : ℕ} (k : ℕ) {m : List ℕ}
+    (h : Owing l i (decimals_of ns) j (decimals_of (drop k ns)) m) where
   -- there is room for the space and the number
   pub next_number_fits : k < length ns → j + 1 + length (decimal (at ns k)) ≤ i + length (decimals_of ns)
   next_number_fits b =

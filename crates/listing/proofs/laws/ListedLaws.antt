@@ -79,7 +79,8 @@ module _ (file l : List ℕ) where
       refused_listed z p = listed (puts_same (refused_is z) p)
 
 -- in a buffer that is long enough: how many of its bytes were written
-pub listed_counts : (file l : List ℕ) {r : ℕ} {m : List ℕ} → max_listing ≤ length l → r ≡ listed_length file (length l) → m ≡ listed_to file l
+pub listed_counts : (file l : List ℕ) {r : ℕ} {m : List ℕ} → max_listing ≤ length l → r ≡ listed_length file (length l)
+    → m ≡ listed_to file l
     → (r ≤ length m) × (r ≡ length (take r m))
 listed_counts file l {r} {m} b e f =
     let within : r ≤ length m = omega (arith, listing_length file, listed_is file l b, ap length f, listed_kept file l) in

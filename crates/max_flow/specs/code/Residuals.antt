@@ -1,6 +1,7 @@
 -- The residual capacities as the code holds them (the paper: "each link has two spare capacities, one each way"): a
 -- row of two for each link.
-use Rattle.std.specs.Prelude.{◌≡◌, ◌≢◌, Bool, true, false, cond, List, [], ◌∷◌, ℕ, zero, suc, ◌+◌, ◌-◌, ◌*◌, ◌/◌, ◌<◌, ◌≤◌, leb, set, length, replicate}
+use Rattle.std.specs.Prelude.{◌≡◌, ◌≢◌, Bool, true, false, cond, List, [], ◌∷◌, ℕ, zero, suc, ◌+◌, ◌-◌, ◌*◌, ◌/◌, ◌<◌}
+use Rattle.std.specs.Prelude.{◌≤◌, leb, set, length, replicate}
 use Rattle.min_cut.specs.code.Arcs.{spare, forward}
 use Rattle.min_cut.specs.code.Residual.{Pushed}
 use Rattle.base.specs.Basics.{at}

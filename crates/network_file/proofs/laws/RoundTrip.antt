@@ -140,7 +140,8 @@ module _ (net : Network) (w : WithinLimits net) where
       ≡ going (start + length (link_bytes net k)) (part k)
   unfolding read_links part link_bytes
   links_read zero l = let q : start ≡ start + 0 = omega arith in ap (λ (v : ℕ). going v (part 0)) q
-  links_read (suc k) l = ap (λ (r : Progress). after r (read_link capacity_row (file_of net) k)) (links_read k (omega arith)) ∙ link_read k l
+  links_read (suc k) l = ap (λ (r : Progress). after r (read_link capacity_row (file_of net) k)) (links_read k (omega arith))
+      ∙ link_read k l
 
   part_all : part net.links ≡ net
   unfolding part network_fits

@@ -61,7 +61,8 @@ module _ (x t : ℕ) where
   lowest_at (suc zero) e l ih = (ap (λ n. eqb n 1) e, λ j m. absurd (omega arith))
   lowest_at (suc (suc d)) e l ih = absurd (omega arith)
 
-lowest_bit : (k x : ℕ) → 0 < x → x < 2 ^ k → (holds x (count_trailing_zeros k x) ≡ true) × ((j : ℕ) → j < count_trailing_zeros k x → holds x j ≡ false)
+lowest_bit : (k x : ℕ) → 0 < x → x < 2 ^ k → (holds x (count_trailing_zeros k x) ≡ true)
+    × ((j : ℕ) → j < count_trailing_zeros k x → holds x j ≡ false)
 unfolding count_trailing_zeros
 lowest_bit zero x p l = absurd (omega arith)
 lowest_bit (suc k) x p l =

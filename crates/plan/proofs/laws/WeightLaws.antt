@@ -15,7 +15,8 @@ use Rattle.base.proofs.laws.TestLaws.{all_at, all_in, Every, shown, head, rest, 
 use Rattle.network.specs.Limits.{max_nodes, max_value}
 use Rattle.cut_tree.specs.Answer.{LowestLightest}
 use Rattle.cut_tree.specs.LightestEdge.{edges_of, no_edge, lightest_among}
-use Rattle.cut_tree.proofs.laws.EdgeLaws.{edges_equal, equal_edges_lem, edge_is, is_edge_lem, edge_none, edge_some, edge_lowest, edge_unique}
+use Rattle.cut_tree.proofs.laws.EdgeLaws.{edges_equal, equal_edges_lem, edge_is, is_edge_lem, edge_none, edge_some}
+use Rattle.cut_tree.proofs.laws.EdgeLaws.{edge_lowest, edge_unique}
 use Rattle.cut_tree.specs.declared.Edge.{Edge}
 use Rattle.plan.specs.code.SoundParts.{weights_within, is_edge, weight_within, weights_fit}
 

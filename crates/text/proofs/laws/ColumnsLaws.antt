@@ -1,6 +1,8 @@
 -- Laws of signed numbers of 32 bits, and of filling the text from the right.
-use Rattle.std.specs.Prelude.{◌≡◌, refl, Bool, true, false, List, [], ◌∷◌, ◌++◌, ℕ, zero, suc, ◌+◌, ◌-◌, ◌/◌, ◌%◌, ◌^◌, ◌≤◌, ◌<◌, T, ℤ, pos, negsuc, ◌+ℤ◌, ◌-ℤ◌, neg_ℤ, nat_abs, length, drop, set}
-use Rattle.std.proofs.Common.{sym, ap, ap₂, ◌∙◌, subst, append_assoc, zero-le, arith, le_refl, lt-ltb, length-set, drop-cons, get_or-set_same, drop-set-lt, SFits, Fits, to_z, of_z, to_z-of_z}
+use Rattle.std.specs.Prelude.{◌≡◌, refl, Bool, true, false, List, [], ◌∷◌, ◌++◌, ℕ, zero, suc, ◌+◌, ◌-◌, ◌/◌, ◌%◌, ◌^◌}
+use Rattle.std.specs.Prelude.{◌≤◌, ◌<◌, T, ℤ, pos, negsuc, ◌+ℤ◌, ◌-ℤ◌, neg_ℤ, nat_abs, length, drop, set}
+use Rattle.std.proofs.Common.{sym, ap, ap₂, ◌∙◌, subst, append_assoc, zero-le, arith, le_refl, lt-ltb, length-set}
+use Rattle.std.proofs.Common.{drop-cons, get_or-set_same, drop-set-lt, SFits, Fits, to_z, of_z, to_z-of_z}
 use Rattle.std.proofs.Math.Dec.{leb-suc-zero}
 use Rattle.std.proofs.Math.IntN.{+ℤ_idl, neg_ℤ-neg_ℤ}
 use Rattle.std.specs.Int.Signed.{mag, lt_z, non_neg}
@@ -36,7 +38,8 @@ plain_fits : (z : ℤ) → mag z < 2 ^ 31 → is_negative z ≡ false → T (non
 plain_fits (pos n) f e = (tt, record { fits = omega arith })
 plain_fits (negsuc n) f e = absurd (subst (λ (b : Bool). T b) e tt)
 
-pub plain_cast : (z : ℤ) → SFits w32 z → is_negative z ≡ false → T (non_neg (to_z w32 (of_z w32 z))) × Fits w32 (nat_abs (to_z w32 (of_z w32 z)))
+pub plain_cast : (z : ℤ) → SFits w32 z → is_negative z ≡ false → T (non_neg (to_z w32 (of_z w32 z)))
+    × Fits w32 (nat_abs (to_z w32 (of_z w32 z)))
 plain_cast z f e = rw (to_z-of_z f) (plain_fits z f.sfits e)
 
 -- ---- the text

@@ -1,5 +1,6 @@
 -- The text that is filled from the right is the text of a headroom (docs/SCOPE.md, 6).
-use Rattle.std.specs.Prelude.{◌≡◌, refl, Bool, true, false, List, [], ◌∷◌, ◌++◌, ℕ, zero, suc, ◌+◌, ◌-◌, ◌/◌, ◌%◌, ◌^◌, ◌≤◌, ◌<◌, length, replicate, set, ltb, ℤ, pos, negsuc, nat_abs}
+use Rattle.std.specs.Prelude.{◌≡◌, refl, Bool, true, false, List, [], ◌∷◌, ◌++◌, ℕ, zero, suc, ◌+◌, ◌-◌, ◌/◌, ◌%◌, ◌^◌}
+use Rattle.std.specs.Prelude.{◌≤◌, ◌<◌, length, replicate, set, ltb, ℤ, pos, negsuc, nat_abs}
 use Rattle.std.proofs.Common.{sym, ap, ap₂, ◌∙◌, append_assoc, arith, length-append, ltb-true, ltb-false, lt-ltb}
 use Rattle.std.proofs.lemmas.List.Edits.{sets}
 use Rattle.base.specs.Basics.{pick}
