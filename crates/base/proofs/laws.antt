@@ -3,7 +3,6 @@ pub mod Bools
 pub mod SumLaws
 pub mod Put
 pub mod IntParts
-pub mod Signed
 pub mod WordLaws
 pub mod BlankLaws
 pub mod TestLaws

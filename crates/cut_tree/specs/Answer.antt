@@ -9,7 +9,7 @@ use Rattle.network.specs.declared.Network.{Network}
 use Rattle.cut_tree.specs.Path.{on_path, number_of, weight_of, node_of, side_in, size_of}
 use Rattle.cut_tree.specs.Definition1.{Lightest}
 use Rattle.cut_tree.specs.declared.Tree.{Tree}
-use Rattle.cut_tree.specs.declared.PairAnswer.{PairAnswer}
+use Rattle.cut_tree.specs.Path.{PairAnswer}
 
 -- found; its side holds s and not t and has its weight as value; no side that separates s and t has a smaller one
 pub record MinimumAnswer (net : Network) (s t : ℕ) (r : PairAnswer) : Type 0 where

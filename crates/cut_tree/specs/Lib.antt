@@ -3,6 +3,8 @@
 pub mod Rule
 pub mod Rebuild
 pub mod Path
+-- what a pair's result is in numbers
+pub mod Results
 pub mod LightestEdge
 pub mod Definition1
 pub mod Answer

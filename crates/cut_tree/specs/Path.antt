@@ -9,8 +9,12 @@ use Rattle.base.specs.Basics.{pick, at, differ, among}
 use Rattle.base.specs.Checks.{Row, row, chain, accepted}
 use Rattle.network.specs.Limits.{max_nodes}
 use Rattle.cut_tree.specs.declared.Tree.{Tree}
-use Rattle.cut_tree.specs.declared.PairAnswer.{PairAnswer}
-use Rattle.cut_tree.specs.declared.PairAnswer.TheVariants.{Refused, Found}
+
+-- what a pair call finds: a refusal number; or the lightest tree edge between s and t by its weight and the node below
+-- it, the side that holds s once that edge is cut, and how many nodes that side has
+pub data PairAnswer : Type 0 where
+  Refused : (number : ℕ) → PairAnswer
+  Found : (weight node side size : ℕ) → PairAnswer
 
 -- the most parents on the way to node 0: all other nodes
 abbrev pub max_climb : ℕ

@@ -9,7 +9,7 @@ use Rattle.network.specs.declared.Network.{Network}
 use Rattle.cut_tree.specs.Rule.{rule_by, least_cut, rule}
 use Rattle.cut_tree.specs.declared.Steps.{Steps}
 use Rattle.cut_tree.specs.declared.Built.{Built}
-use Rattle.cut_tree.specs.declared.StepCut.{StepCut}
+use Rattle.cut_tree.specs.Rule.{StepCut}
 
 -- ---- a rebuild on a new network
 -- a keeping test: whether a recorded cut, a side and its value, can stay

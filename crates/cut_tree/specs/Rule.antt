@@ -8,7 +8,12 @@ use Rattle.network.specs.declared.Network.{Network}
 use Rattle.cut_tree.specs.declared.Tree.{Tree}
 use Rattle.cut_tree.specs.declared.Steps.{Steps}
 use Rattle.cut_tree.specs.declared.Built.{Built}
-use Rattle.cut_tree.specs.declared.StepCut.{StepCut}
+
+-- the cut of a step: its side and its value; 1 where it was worked out, 0 where a recorded one was kept
+pub record StepCut : Type 0 where
+  pub side : ℕ
+  pub value : ℕ
+  pub anew : ℕ
 
 abbrev pub no_tree : Tree
 no_tree = record { parent = replicate max_nodes 0; weight = replicate max_nodes 0 }

@@ -16,6 +16,8 @@ pub fn lightest_edge(weight: &[u32; MAX_NODES], n: usize) -> Edge
         return Edge { node: 0, weight: 0 };
     }
     let mut best: usize = 1;
+    // Kept: tried by `min_by_key`, whose clause tells turn by turn that it gives the first of equals; the proof from
+    // there to `lightest_among` stayed open.
     for i in 2..n {
         if weight[i] < weight[best] {
             best = i;

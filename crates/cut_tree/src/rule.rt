@@ -3,9 +3,11 @@ ghost use Rattle.std.specs.Prelude.{◌≡◌, ◌<◌};
 ghost use Rattle.base.specs.Word.{holds};
 ghost use Rattle.base.specs.Basics.{at};
 ghost use Rattle.network.specs.Limits.{max_nodes};
-ghost use Rattle.cut_tree.specs.Rule.{moved};
-ghost use Rattle.cut_tree.specs.code.RebuildParts.{moved_one, placed_parents, placed_weights};
+ghost use Rattle.cut_tree.specs.Rule.{moved, placed, recorded};
+ghost use Rattle.cut_tree.specs.code.RebuildParts.{moved_one};
 
+use crate::{Steps, Tree};
+use max_flow::Cut;
 use network::MAX_NODES;
 
 // The parent p of a node of the step's side: s in place of t.
@@ -16,10 +18,12 @@ fn moved_one(p: u8, s: u8, t: u8) -> u8
 }
 
 // Every node in x with parent t gets parent s.
+#[tactic(auto, using(node_set::proofs::theorems::Members::removed_less))]
 fn move_nodes(parent: &mut [u8; MAX_NODES], x: u64, s: u8, t: u8)
     ensures { parent.new ≡ moved x s t 0 parent.old }
 {
     let mut rest = x;
+    // Kept: these are the bits of a set; no range names them, and the library has no iterator over bits.
     while rest != 0 {
         let i = node_set::lowest(rest);
         parent[i] = moved_one(parent[i], s, t);
@@ -27,31 +31,35 @@ fn move_nodes(parent: &mut [u8; MAX_NODES], x: u64, s: u8, t: u8)
     }
 }
 
-// Node s, of pivot t and a cut x of value w, is placed: beside t; or, where x holds the parent of t, between that
-// parent and t.
-pub fn place(
-    parent: &mut [u8; MAX_NODES],
-    weight: &mut [u32; MAX_NODES],
-    s: usize,
-    t: usize,
-    x: u64,
-    w: u32,
-)
-    requires { (s < max_nodes) × (t < max_nodes) × (at parent.old t < max_nodes) }
-    ensures parent_after { parent.new
-        ≡ placed_parents (holds x (at parent.old t)) parent.old s t x }
-    ensures weight_after { weight.new
-        ≡ placed_weights (holds x (at parent.old t)) weight.old s t w }
-{
-    let q = parent[t];
-    move_nodes(parent, x, s as u8, t as u8);
-    if node_set::contains(x, q as usize) {
-        parent[s] = q;
-        parent[t] = s as u8;
-        weight[s] = weight[t];
-        weight[t] = w;
-        return;
+impl Tree {
+    // Node s, of pivot t, is placed by its cut: beside t; or, where the cut's side holds the parent of t, between that
+    // parent and t.
+    pub(crate) fn place(&mut self, s: usize, t: usize, cut: Cut)
+        requires { (s < max_nodes) × (t < max_nodes) × (at self.old.parent t < max_nodes) }
+        ensures { self.new ≡ placed (holds cut.side (at self.old.parent t)) self.old s t cut.side cut.value }
+    {
+        let q = self.parent[t];
+        move_nodes(&mut self.parent, cut.side, s as u8, t as u8);
+        if node_set::contains(cut.side, q as usize) {
+            self.parent[s] = q;
+            self.parent[t] = s as u8;
+            self.weight[s] = self.weight[t];
+            self.weight[t] = cut.value;
+        } else {
+            self.parent[s] = t as u8;
+            self.weight[s] = cut.value;
+        }
     }
-    parent[s] = t as u8;
-    weight[s] = w;
+}
+
+impl Steps {
+    // the pivot of s and its cut are recorded
+    pub(crate) fn record(&mut self, s: usize, t: usize, cut: Cut)
+        requires { (s < max_nodes) × (t < max_nodes) }
+        ensures { self.new ≡ recorded self.old s t cut.side cut.value }
+    {
+        self.pivot[s] = t as u8;
+        self.side[s] = cut.side;
+        self.value[s] = cut.value;
+    }
 }

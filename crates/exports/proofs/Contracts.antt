@@ -1,8 +1,7 @@
 -- The contracts of src/held.rt and src/window.rt, as the prover has them, are the promises of specs/Made.antt and
 -- specs/Lent.antt: each by `refl`, so that one that is changed alone is refused here. `a` are the arguments, `ws` what
 -- stands behind the `&mut` ones at exit, r is the result.
-use Prim.Native.Nat.{ℕ}
-use mathlib.Core.Path.{◌≡◌, refl}
+use Rattle.std.specs.Prelude.{ℕ, ◌≡◌, refl}
 use seplogic.Ra.Ura.{Ura}
 use base.Logic.{SProp}
 use prog.Memory.{Memory}

@@ -1,7 +1,7 @@
 -- A pair's answer as the numbers that C gets, and back.
 use Rattle.base.specs.Checks.{accepted}
-use Rattle.cut_tree.specs.declared.PairAnswer.{PairAnswer}
-use Rattle.cut_tree.specs.declared.PairAnswer.TheVariants.{Refused, Found}
+use Rattle.cut_tree.specs.Path.{PairAnswer}
+use Rattle.cut_tree.specs.Path.{Refused, Found}
 use Rattle.exports.specs.declared.held.PairReply.{PairReply}
 
 -- beside a refusal all else is 0

@@ -1,17 +1,22 @@
 // A plan in the caller's memory, lent to one call after another. Every content of that memory is taken: a plan that is
 // not sound is refused with 19. Each function gives its refusal number, or 0. The work is done by value in `plan`; here
 // the plan is copied out, and what comes back is stored.
+// Kept: the C interface has numbers for refusals, and what comes with them behind pointers.
 ghost use Rattle.std.specs.Prelude.{length, ◌≡◌};
+ghost use Rattle.network.specs.Refusals.{outcome_number};
+ghost use Rattle.cut_tree.specs.Results.{as_answer};
 ghost use Rattle.exports.specs.PairReply.{pair_reply};
 ghost use Rattle.plan.specs.Calls.{open_of, change_of, undo_of, pair_of, preview_of, Flowed};
 ghost use Rattle.plan.specs.Calls.{headroom_of, write_of, written_to};
+ghost use Rattle.plan.specs.Results.{as_changed};
 
-use cut_tree::PairAnswer;
-use plan::{HeadroomReply, Plan};
+use cut_tree::PairFound;
+use network::Refusal;
+use plan::{Altered, HeadroomReply, Plan};
 
 // A pair's answer as numbers: zeros beside a refusal.
 #[repr(C)]
-#[derive(Clone, Copy)]
+#[derive(Clone, Copy, Debug, PartialEq, Eq)]
 pub struct PairReply {
     pub number: u32,
     pub weight: u32,
@@ -20,16 +25,78 @@ pub struct PairReply {
     pub size: usize,
 }
 
+impl From<Result<PairFound, Refusal>> for PairReply {
+    ghost from_gives = { λ r reply. reply ≡ pair_reply (as_answer r) };
+
+    fn from(answer: Result<PairFound, Refusal>) -> PairReply {
+        match answer {
+            Ok(found) => PairReply {
+                number: 0,
+                weight: found.weight,
+                side: found.side,
+                node: found.node,
+                size: found.size as usize,
+            },
+            Err(refusal) => {
+                let number = refusal.number();
+                PairReply {
+                    number,
+                    weight: 0,
+                    side: 0,
+                    node: 0,
+                    size: 0,
+                }
+            }
+        }
+    }
+}
+
+// The number of a call's result: 0, accepted, or the refusal's.
+fn number_of<T>(outcome: &Result<T, Refusal>) -> u32
+    ensures { result ≡ outcome_number outcome.now }
+{
+    match outcome {
+        Ok(_) => 0,
+        Err(refusal) => refusal.number(),
+    }
+}
+
 // A file's plan; beside a refusal the place of the fault and a plan of zeros, which every call refuses.
 #[unsafe(no_mangle)]
 pub extern "C" fn pamzolit_open(file: &[u8], plan: &mut Plan, place: &mut usize) -> u32
     ensures { record { number = result; place = place.new; plan = plan.new }
         ≡ open_of file.now }
 {
-    let opening = plan::open(file);
-    *plan = opening.plan;
-    *place = opening.place;
-    opening.number
+    match plan::open(file) {
+        Ok(opened) => {
+            *plan = opened;
+            *place = 0;
+            0
+        }
+        Err(fault) => {
+            *plan = plan::no_plan();
+            *place = fault.place;
+            fault.refusal.number()
+        }
+    }
+}
+
+// Stores what a change or an undo leaves; refused, the plan stays and the count is 0.
+fn store(altered: Result<Altered, Refusal>, plan: &mut Plan, count: &mut u32) -> u32
+    ensures { as_changed plan.old altered
+        ≡ record { number = result; count = count.new; plan = plan.new } }
+{
+    match altered {
+        Ok(altered) => {
+            *plan = altered.plan;
+            *count = altered.count;
+            0
+        }
+        Err(refusal) => {
+            *count = 0;
+            refusal.number()
+        }
+    }
 }
 
 // A link gets a capacity; the count is of the steps that were not kept.
@@ -43,10 +110,7 @@ pub extern "C" fn pamzolit_change(
     ensures { record { number = result; count = count.new; plan = plan.new }
         ≡ change_of plan.old link capacity }
 {
-    let changed = plan::change(*plan, link, capacity);
-    *plan = changed.plan;
-    *count = changed.count;
-    changed.number
+    store(plan::change(*plan, link, capacity), plan, count)
 }
 
 // The newest change that stands is undone.
@@ -54,42 +118,7 @@ pub extern "C" fn pamzolit_change(
 pub extern "C" fn pamzolit_undo(plan: &mut Plan, count: &mut u32) -> u32
     ensures { record { number = result; count = count.new; plan = plan.new } ≡ undo_of plan.old }
 {
-    let changed = plan::undo(*plan);
-    *plan = changed.plan;
-    *count = changed.count;
-    changed.number
-}
-
-fn in_numbers(answer: PairAnswer) -> PairReply
-    ensures { result ≡ pair_reply answer }
-{
-    match answer {
-        PairAnswer::Refused(number) => PairReply {
-            number,
-            weight: 0,
-            side: 0,
-            node: 0,
-            size: 0,
-        },
-        PairAnswer::Found {
-            weight,
-            node,
-            side,
-            size,
-        } => PairReply {
-            number: 0,
-            weight,
-            side,
-            node,
-            size: size as usize,
-        },
-    }
-}
-
-fn pair_reply(p: Plan, s: usize, t: usize) -> PairReply
-    ensures { result ≡ pair_reply (pair_of p s t) }
-{
-    in_numbers(plan::pair(p, s, t))
+    store(plan::undo(*plan), plan, count)
 }
 
 // The lightest edge of the tree path between two nodes.
@@ -99,28 +128,8 @@ pub extern "C" fn pamzolit_pair(plan: &Plan, s: usize, t: usize, reply: &mut Pai
         × (reply.new ≡ pair_reply (pair_of plan.now s t))
         × (plan.now ≡ plan.now) }
 {
-    let found = pair_reply(*plan, s, t);
-    *reply = found;
-    found.number
-}
-
-// A preview's answer as numbers, and its count.
-#[derive(Clone, Copy)]
-struct PreviewNumbers {
-    pair: PairReply,
-    count: u32,
-}
-
-fn preview_numbers(p: Plan, link: usize, capacity: u32, s: usize, t: usize) -> PreviewNumbers
-    ensures { let shown = preview_of p link capacity s t in
-        result ≡ record { pair = pair_reply shown.answer; count = shown.count } }
-{
-    let found = plan::preview(p, link, capacity, s, t);
-    let answer = found.answer;
-    PreviewNumbers {
-        pair: in_numbers(answer),
-        count: found.count,
-    }
+    *reply = PairReply::from(plan::pair(*plan, s, t));
+    reply.number
 }
 
 // The pair as a change would leave it; the plan stays as it is. The count is of the steps that the change would not
@@ -139,10 +148,10 @@ pub extern "C" fn pamzolit_preview(
         (result ≡ (pair_reply shown.answer).number) × (reply.new ≡ pair_reply shown.answer)
         × (count.new ≡ shown.count) × (plan.now ≡ plan.now) }
 {
-    let found = preview_numbers(*plan, link, capacity, s, t);
-    *reply = found.pair;
-    *count = found.count;
-    found.pair.number
+    let found = plan::preview(*plan, link, capacity, s, t);
+    *count = found.map_or(0, |found| found.count);
+    *reply = PairReply::from(found.map(|found| found.pair));
+    reply.number
 }
 
 // The pair's weight less a demand, as a number and as text.
@@ -158,9 +167,8 @@ pub extern "C" fn pamzolit_headroom(
         × (reply.new ≡ headroom_of plan.now s t demand)
         × (plan.now ≡ plan.now) }
 {
-    let found = plan::headroom(*plan, s, t, demand);
-    *reply = found;
-    found.number
+    *reply = HeadroomReply::from(plan::headroom(*plan, s, t, demand));
+    reply.number
 }
 
 // A lawful flow of the largest total, link by link.
@@ -169,7 +177,7 @@ pub extern "C" fn pamzolit_flow(plan: &Plan, s: usize, t: usize, out: &mut [i32]
     ensures { Flowed plan.now s t out.old result out.new
         × (plan.now ≡ plan.now) }
 {
-    plan::flow(*plan, s, t, out)
+    number_of(&plan::flow(*plan, s, t, out))
 }
 
 // The plan's file, into the first places of a buffer; `used` gets its length.
@@ -180,6 +188,6 @@ pub extern "C" fn pamzolit_write(plan: &Plan, out: &mut [u8], used: &mut usize) 
         × (plan.now ≡ plan.now) }
 {
     let written = plan::write(*plan, out);
-    *used = written.length;
-    written.number
+    *used = written.unwrap_or(0);
+    number_of(&written)
 }

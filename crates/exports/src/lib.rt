@@ -12,6 +12,7 @@ pub use crate::held::{
     pamzolit_preview, pamzolit_undo, pamzolit_write,
 };
 pub use crate::window::{pamzolit_reading, pamzolit_reset};
+use listing::NOT_LISTED;
 
 // What the program `pairs` prints for a file.
 #[unsafe(no_mangle)]
@@ -19,5 +20,5 @@ pub extern "C" fn pamzolit_listing(file: &[u8], out: &mut [u8]) -> usize
     ensures value { result ≡ listed_length file.now (length out.old) }
     ensures out_after { out.new ≡ listed_to file.now out.old }
 {
-    listing::listing(file, &mut *out)
+    listing::listing(file, out).unwrap_or(NOT_LISTED)
 }

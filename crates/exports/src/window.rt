@@ -27,7 +27,6 @@ pub extern "C" fn pamzolit_reading(
         (result ≡ read.reply.number) × (window.new ≡ read.window) × (reply.new ≡ read.reply)
         × (plan.now ≡ plan.now) }
 {
-    let shown = gate_window::reading(window, *plan, s, t, demand);
-    *reply = shown;
-    shown.number
+    *reply = WindowReply::from(gate_window::reading(window, *plan, s, t, demand));
+    reply.number
 }

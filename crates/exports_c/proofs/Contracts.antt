@@ -1,7 +1,7 @@
 -- The archive's contracts, as the prover has them, are those of the library's functions of the same names: each by
 -- `refl`, so that one that is changed alone is refused here. That those are the promises of `exports`' specs is shown
 -- in its proofs/Contracts.antt.
-use mathlib.Core.Path.{◌≡◌, refl}
+use Rattle.std.specs.Prelude.{◌≡◌, refl}
 use seplogic.Ra.Ura.{Ura}
 use types.Logic.{Logic}
 use Rattle.exports.specs.contracts.pamzolit_listing as listing

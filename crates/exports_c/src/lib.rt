@@ -1,5 +1,6 @@
 // The archive: the functions of `exports` that C and Rust programs call (include/pamzolit.h), under the same names and
 // with the same clauses. Each hands on what it is given.
+// Kept: C finds only the names of the crate that is built as an archive.
 #![tactic(auto)]
 
 ghost use Rattle.std.specs.Prelude.{length, ◌≡◌};

@@ -1,3 +1,4 @@
 -- Worked examples, by evaluation.
 pub mod Evening
 pub mod Windows
+pub mod Results

@@ -2,6 +2,8 @@
 -- is claimed of them
 pub mod Shown
 pub mod Reading
+-- what a reading's result is as a reply
+pub mod Results
 pub mod Run
 pub mod Machine
 pub mod Claims

@@ -9,7 +9,12 @@ use Rattle.plan.specs.Calls.{headroom_rows, headroom_of}
 use Rattle.plan.specs.declared.Plan.{Plan}
 use Rattle.gate_window.specs.Shown.{window_width, window_text}
 use Rattle.gate_window.specs.declared.Window.{Window}
-use Rattle.gate_window.specs.declared.Updated.{Updated}
+use Rattle.gate_window.specs.declared.WindowReply.{WindowReply}
+
+-- what a reading leaves of the record that it was given, and its reply
+pub record Updated : Type 0 where
+  pub window : Window
+  pub reply : WindowReply
 
 -- the readings that a record takes between two resets
 abbrev pub max_readings : ℕ

@@ -13,7 +13,7 @@ const HIGHEST_SHOWN: i32 = 999;
 fn last_four(whole: [u8; TEXT_WIDTH]) -> [u8; WINDOW_WIDTH]
     ensures { result ≡ drop 8 whole }
 {
-    [whole[8], whole[9], whole[10], whole[11]]
+    *whole.last_chunk().unwrap()
 }
 
 // What the window shows of a headroom.
@@ -21,10 +21,10 @@ pub fn window_text(headroom: i32) -> [u8; WINDOW_WIDTH]
     ensures { result ≡ window_text headroom }
 {
     if headroom < LOWEST_SHOWN {
-        return [76, 79, 87, 32];
+        return *b"LOW ";
     }
     if headroom > HIGHEST_SHOWN {
-        return [72, 73, 71, 72];
+        return *b"HIGH";
     }
     last_four(text::tenths(headroom))
 }

@@ -1,66 +1,46 @@
 // A reading of a record that is passed by value: the headroom's checks, then the record's own, then the three numbers.
 ghost use Rattle.std.specs.Prelude.{◌≡◌, ◌<◌};
-ghost use Rattle.gate_window.specs.Reading.{max_readings, lowest_by, noted, read, not_read, reading_of};
+ghost use Rattle.gate_window.specs.Reading.{max_readings, lowest_by, noted, reading_of};
+ghost use Rattle.gate_window.specs.Results.{as_updated};
 
 use crate::shown::window_text;
-use crate::{MAX_READINGS, Updated, WINDOW_WIDTH, Window, WindowReply};
-use network::TOO_MANY_READINGS;
+use crate::{MAX_READINGS, Noted, Window};
+use network::Refusal;
 use plan::Plan;
 
-// The first reading sets the lowest, whatever stands there.
-fn lowest_by(count: u32, lowest: i32, headroom: i32) -> i32
-    ensures { result ≡ lowest_by count lowest headroom }
-{
-    if count == 0 {
-        return headroom;
+impl Window {
+    // The first reading sets the lowest, whatever stands there.
+    fn lowest_by(self, headroom: i32) -> i32
+        ensures { result ≡ lowest_by self.count self.lowest headroom }
+    {
+        if self.count == 0 {
+            return headroom;
+        }
+        headroom.min(self.lowest)
     }
-    if headroom < lowest { headroom } else { lowest }
-}
 
-fn noted(w: Window, headroom: i32) -> Window
-    requires { w.count < max_readings }
-    ensures { result ≡ noted w headroom }
-{
-    Window {
-        last: headroom,
-        lowest: lowest_by(w.count, w.lowest, headroom),
-        count: w.count + 1,
+    // One more reading, accepted.
+    fn noted(self, headroom: i32) -> Window
+        requires { self.count < max_readings }
+        ensures { result ≡ noted self headroom }
+    {
+        Window {
+            last: headroom,
+            lowest: self.lowest_by(headroom),
+            count: self.count + 1,
+        }
     }
 }
 
-fn read(w: Window, headroom: i32) -> Updated
-    requires { w.count < max_readings }
-    ensures { result ≡ read w headroom }
+// The same of a record that is passed by value: what a reading leaves of it, and what the window shows.
+pub fn after_reading(p: Plan, w: Window, s: usize, t: usize, demand: u32) -> Result<Noted, Refusal>
+    ensures { as_updated w result ≡ reading_of p w s t demand }
 {
-    let window = noted(w, headroom);
-    let reply = WindowReply {
-        number: 0,
-        text: window_text(headroom),
-    };
-    Updated { window, reply }
-}
-
-// What a refusal gives: the record as it is, and spaces.
-fn not_read(w: Window, number: u32) -> Updated
-    ensures { result ≡ not_read w number }
-{
-    let reply = WindowReply {
-        number,
-        text: [32; WINDOW_WIDTH],
-    };
-    Updated { window: w, reply }
-}
-
-// What a reading leaves of a record, and its reply.
-pub fn after_reading(p: Plan, w: Window, s: usize, t: usize, demand: u32) -> Updated
-    ensures { result ≡ reading_of p w s t demand }
-{
-    let left = plan::headroom(p, s, t, demand);
-    if left.number != 0 {
-        return not_read(w, left.number);
-    }
+    let left = plan::headroom(p, s, t, demand)?;
     if w.count >= MAX_READINGS {
-        return not_read(w, TOO_MANY_READINGS);
+        return Err(Refusal::TooManyReadings);
     }
-    read(w, left.value)
+    let window = w.noted(left.value);
+    let text = window_text(left.value);
+    Ok(Noted { window, text })
 }

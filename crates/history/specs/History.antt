@@ -13,8 +13,8 @@ use Rattle.cut_tree.specs.Path.{answer, number_of, weight_of}
 use Rattle.cut_tree.specs.LightestEdge.{lightest_edge, NetworkCut}
 use Rattle.cut_tree.specs.Definition1.{CutTree}
 use Rattle.cut_tree.specs.Answer.{MinimumAnswer, LightestAnswer}
-use Rattle.cut_tree.specs.declared.PairAnswer.{PairAnswer}
-use Rattle.cut_tree.specs.declared.PairAnswer.TheVariants.{Refused}
+use Rattle.cut_tree.specs.Path.{PairAnswer}
+use Rattle.cut_tree.specs.Path.{Refused}
 use Rattle.plan.specs.Plan.{sound, no_stack}
 use Rattle.plan.specs.Calls.{open_of, pair_of, no_preview, write_of, written_to}
 use Rattle.plan.specs.Lightest.{LeastPair}
@@ -23,7 +23,7 @@ use Rattle.history.specs.Machine.{state, numbers, number_at, network_at, stack_o
 use Rattle.history.specs.Run.{FlowReply, Answer, Reply, Event, number_in, calls_of, numbers_of, Answered, plan_after}
 use Rattle.history.specs.Run.{left}
 use Rattle.plan.specs.declared.Plan.{Plan}
-use Rattle.plan.specs.declared.PreviewReply.{PreviewReply}
+use Rattle.plan.specs.Calls.{PreviewReply}
 
 -- ---- a plan, and the machine beside it
 -- q is what the opened network and the machine's state make it

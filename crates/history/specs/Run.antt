@@ -3,12 +3,12 @@
 -- back." The list may be empty.
 use Rattle.std.specs.Prelude.{ℕ, ◌≡◌, List, [], ◌∷◌, map, length, ℤ}
 use Rattle.cut_tree.specs.Path.{number_of}
-use Rattle.cut_tree.specs.declared.PairAnswer.{PairAnswer}
+use Rattle.cut_tree.specs.Path.{PairAnswer}
 use Rattle.plan.specs.Calls.{change_of, undo_of, pair_of, preview_of, Flowed}
 use Rattle.history.specs.Machine.{Query, pair, flow, preview, Call, change, undo, ask}
 use Rattle.plan.specs.declared.Plan.{Plan}
-use Rattle.plan.specs.declared.Changed.{Changed}
-use Rattle.plan.specs.declared.PreviewReply.{PreviewReply}
+use Rattle.plan.specs.Calls.{Changed}
+use Rattle.plan.specs.Calls.{PreviewReply}
 
 -- ---- calls and replies
 -- the flow call's number, with its buffer before and behind it

@@ -4,14 +4,14 @@ use Rattle.std.specs.Prelude.{ℕ, List, [], ◌∷◌, eqb}
 use Rattle.base.specs.Basics.{pick, at}
 use Rattle.network.specs.Network.{with_capacity}
 use Rattle.cut_tree.specs.Rule.{no_tree}
-use Rattle.cut_tree.specs.declared.PairAnswer.{PairAnswer}
+use Rattle.cut_tree.specs.Path.{PairAnswer}
 use Rattle.plan.specs.Plan.{no_stack, push, plan_of, plan_with}
 use Rattle.plan.specs.Calls.{change_of}
 use Rattle.history.specs.Machine.{change, pair, ask}
 use Rattle.history.specs.Run.{Event}
 use Rattle.plan.proofs.examples.ResortA.{network_a, steps_a, plan_a}
 use Rattle.plan.specs.declared.Plan.{Plan}
-use Rattle.plan.specs.declared.Changed.{Changed}
+use Rattle.plan.specs.Calls.{Changed}
 
 abbrev pub changing : (k c : ℕ) → Changed → Event
 changing k c r = record { call = change k c; reply = r }

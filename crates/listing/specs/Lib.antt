@@ -2,3 +2,5 @@
 pub mod Listing
 -- what is claimed of them
 pub mod Shown
+-- what the code's own parts promise
+pub mod code

@@ -1,5 +1,6 @@
 -- The program `pairs` (docs/SCOPE.md, 6): what is printed for a file.
-use Rattle.std.specs.Prelude.{ℕ, zero, suc, ◌+◌, ◌-◌, ◌*◌, ◌/◌, ◌^◌, List, [], ◌∷◌, ◌++◌, length, ltb}
+use Rattle.std.specs.Prelude.{Option, Some, None, ℕ, zero, suc, ◌+◌, ◌-◌, ◌*◌}
+use Rattle.std.specs.Prelude.{◌/◌, ◌^◌, List, [], ◌∷◌, ◌++◌, length, ltb}
 use Rattle.std.proofs.lemmas.List.Edits.{sets}
 use Rattle.base.specs.Basics.{at, pick}
 use Rattle.base.specs.Checks.{accepted}
@@ -79,7 +80,11 @@ max_listing = max_line * (max_nodes + max_nodes * (max_nodes - 1) / 2)
 abbrev pub not_listed : ℕ
 not_listed = 2 ^ 64 - 1
 
--- the answer, by the buffer's length: how many bytes were written
+-- the answer, by the buffer's length: how many bytes were written; none of a shorter buffer
+unfoldable pub listed : List ℕ → ℕ → Option ℕ
+listed file size = pick (ltb size max_listing) None (Some (length (listing_of file)))
+
+-- the same for C, as a number
 unfoldable pub listed_length : List ℕ → ℕ → ℕ
 listed_length file size = pick (ltb size max_listing) not_listed (length (listing_of file))
 

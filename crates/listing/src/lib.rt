@@ -2,12 +2,12 @@
 #![tactic(auto)]
 
 mod line; // a word and numbers
-mod lines; // the lines of a plan
+mod lines; // the lines of a file
 
-ghost use Rattle.std.specs.Prelude.{◌≡◌, length, ◌≤◌};
-ghost use Rattle.listing.specs.Listing.{refused_line, listed_length, listed_to};
-ghost use Rattle.base.specs.code.Puts.{Puts};
+ghost use Rattle.std.specs.Prelude.{◌≡◌, length};
+ghost use Rattle.listing.specs.Listing.{listed, listed_to};
 
+use crate::line::Lines;
 use network::MAX_NODES;
 
 // So many bytes of a file are listed as the whole file is.
@@ -18,30 +18,20 @@ const MAX_DIGITS: usize = 20;
 const MAX_LINE: usize = 4 + 4 * (1 + MAX_DIGITS);
 // A buffer of this length holds every listing: a line for each node, and for every two.
 pub const MAX_LISTING: usize = MAX_LINE * (MAX_NODES + MAX_NODES * (MAX_NODES - 1) / 2);
-// What is answered of a shorter buffer.
+// What C is answered of a shorter buffer.
+// Kept: the C interface has a length or this number.
 pub const NOT_LISTED: usize = 0xffff_ffff_ffff_ffff;
-
-fn refused_line(out: &mut [u8], number: u32, fault: usize) -> usize
-    requires { length (refused_line number fault) ≤ length out.old }
-    ensures { Puts out.old 0 (refused_line number fault) result out.new }
-{
-    let numbers = [number as u64, fault as u64];
-    line::put_line(&mut *out, 0, b"refused", &numbers)
-}
 
 // Writes the listing of a file into the first bytes of a buffer, leaves the rest, and gives its length. A buffer that
 // is shorter than MAX_LISTING is left as it is.
-pub fn listing(file: &[u8], out: &mut [u8]) -> usize
-    ensures value { result ≡ listed_length file.now (length out.old) }
+pub fn listing(file: &[u8], out: &mut [u8]) -> Option<usize>
+    ensures value { result ≡ listed file.now (length out.old) }
     ensures out_after { out.new ≡ listed_to file.now out.old }
 {
     if out.len() < MAX_LISTING {
-        return NOT_LISTED;
+        return None;
     }
-    let opening = plan::open(file);
-    if opening.number == 0 {
-        lines::plan_lines(&mut *out, opening.plan)
-    } else {
-        refused_line(&mut *out, opening.number, opening.place)
-    }
+    let mut lines = Lines::new(out);
+    lines.file(file);
+    Some(lines.place)
 }

@@ -1,40 +1,59 @@
 // A line of the listing: a word and numbers, one space before each number, a line feed after the last.
-ghost use Rattle.std.specs.Prelude.{length, ◌+◌, ◌≤◌};
+ghost use Rattle.std.specs.Prelude.{◌≡◌};
+ghost use Rattle.text.specs.Text.{decimal};
 ghost use Rattle.listing.specs.Listing.{decimals_of, line_of};
-ghost use Rattle.base.specs.code.Puts.{Puts};
+ghost use Rattle.listing.specs.code.Adds.{Adds, Room};
 
-// Puts a word at a place, and gives the place behind it.
-fn put_word(out: &mut [u8], place: usize, word: &[u8]) -> usize
-    requires { place + length word.now ≤ length out.old }
-    ensures { Puts out.old place word.now result out.new }
-{
-    let mut next = place;
-    for k in 0..word.len() {
-        out[next] = word[k];
-        next += 1;
-    }
-    next
+// A listing while it is written: its buffer, and the place behind what stands there.
+// Kept: the library does not allocate, so that no string can grow here.
+#[derive(Drop)]
+pub struct Lines<'a> {
+    pub out: &'a mut [u8],
+    pub place: usize,
 }
 
-// Puts the numbers and the line feed.
-fn put_decimals(out: &mut [u8], place: usize, numbers: &[u64]) -> usize
-    requires { place + length (decimals_of numbers.now) ≤ length out.old }
-    ensures { Puts out.old place (decimals_of numbers.now) result out.new }
-{
-    let mut next = place;
-    for k in 0..numbers.len() {
-        out[next] = b' ';
-        next = text::put_decimal(&mut *out, next + 1, numbers[k]);
+impl<'a> Lines<'a> {
+    pub fn new(out: &'a mut [u8]) -> Lines<'a>
+        ensures same { result.out.ghost_name ≡ out.entry.ghost_name }
+        ensures out { result.out.now ≡ out.old }
+        ensures place { result.place ≡ 0 }
+    {
+        Lines { out, place: 0 }
     }
-    out[next] = b'\n';
-    next + 1
-}
 
-pub fn put_line(out: &mut [u8], place: usize, word: &[u8], numbers: &[u64]) -> usize
-    requires { place + length (line_of word.now numbers.now) ≤ length out.old }
-    ensures { Puts out.old place (line_of word.now numbers.now)
-        result out.new }
-{
-    let next = put_word(&mut *out, place, word);
-    put_decimals(&mut *out, next, numbers)
+    fn word(&mut self, word: &[u8])
+        requires { Room self.old word.now }
+        ensures { Adds self.old word.now self.new }
+    {
+        let end = self.place + word.len();
+        self.out[self.place..end].copy_from_slice(word);
+        self.place = end;
+    }
+
+    fn number(&mut self, number: u64)
+        requires { Room self.old (decimal number) }
+        ensures { Adds self.old (decimal number) self.new }
+    {
+        self.place = text::put_decimal(&mut *self.out, self.place, number);
+    }
+
+    // The numbers and the line feed.
+    fn numbers(&mut self, numbers: &[u64])
+        requires { Room self.old (decimals_of numbers.now) }
+        ensures { Adds self.old (decimals_of numbers.now) self.new }
+    {
+        for number in numbers {
+            self.word(b" ");
+            self.number(*number);
+        }
+        self.word(b"\n");
+    }
+
+    pub fn line(&mut self, word: &[u8], numbers: &[u64])
+        requires { Room self.old (line_of word.now numbers.now) }
+        ensures { Adds self.old (line_of word.now numbers.now) self.new }
+    {
+        self.word(word);
+        self.numbers(numbers);
+    }
 }

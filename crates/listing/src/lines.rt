@@ -1,110 +1,96 @@
-// The lines of a plan: its tree, and every two nodes.
-ghost use Rattle.std.specs.Prelude.{◌≡◌, length, suc, ◌+◌, ◌-◌, ◌<◌, ◌≤◌};
+// The lines of a file: its plan's tree and every two nodes, or why it is refused.
+ghost use Rattle.std.specs.Prelude.{suc, ◌-◌, ◌<◌, ◌≤◌};
 ghost use Rattle.network.specs.Limits.{max_nodes};
-ghost use Rattle.cut_tree.specs.Path.{weight_of, side_in};
+ghost use Rattle.network.specs.Refusals.{refusal_number};
 ghost use Rattle.listing.specs.Listing.{tree_line, tree_lines, pair_line, pairs_of, pair_lines, plan_lines};
-ghost use Rattle.base.specs.code.Puts.{Puts};
+ghost use Rattle.listing.specs.Listing.{refused_line, listing_of};
+ghost use Rattle.listing.specs.code.Adds.{Adds, Room};
 
-use crate::line::put_line;
-use cut_tree::{PairAnswer, Tree};
+use crate::line::Lines;
+use cut_tree::Tree;
+use network_file::Fault;
 use plan::Plan;
 
-fn tree_line(out: &mut [u8], place: usize, tree: Tree, node: usize) -> usize
-    requires node_lt_max_nodes { node < max_nodes }
-    requires node_in_bounds { place + length (tree_line tree node) ≤ length out.old }
-    ensures { Puts out.old place (tree_line tree node) result out.new }
-{
-    let numbers = [
-        node as u64,
-        tree.parent[node] as u64,
-        tree.weight[node] as u64,
-    ];
-    put_line(&mut *out, place, b"tree", &numbers)
-}
-
-// Nodes 1 up.
-fn tree_lines(out: &mut [u8], place: usize, tree: Tree, nodes: usize) -> usize
-    requires nodes_le_max_nodes { nodes ≤ max_nodes }
-    requires nodes_in_bounds { place + length (tree_lines tree (nodes - 1)) ≤ length out.old }
-    ensures { Puts out.old place (tree_lines tree (nodes - 1)) result out.new }
-{
-    let mut next = place;
-    for i in 1..nodes {
-        next = tree_line(&mut *out, next, tree, i);
+impl Lines<'_> {
+    #[tactic(auto, unfolding(crate::specs::Listing::tree_line))]
+    fn tree_line(&mut self, tree: Tree, node: usize)
+        requires node_lt_max_nodes { node < max_nodes }
+        requires node_in_bounds { Room self.old (tree_line tree node) }
+        ensures { Adds self.old (tree_line tree node) self.new }
+    {
+        let parent = tree.parent[node] as u64;
+        let weight = tree.weight[node] as u64;
+        self.line(b"tree", &[node as u64, parent, weight]);
     }
-    next
-}
 
-fn weight_of(answer: PairAnswer) -> u32
-    ensures { result ≡ weight_of answer }
-{
-    match answer {
-        PairAnswer::Refused(_) => 0,
-        PairAnswer::Found {
-            weight,
-            node: _,
-            side: _,
-            size: _,
-        } => weight,
+    // Nodes 1 up.
+    fn tree_lines(&mut self, tree: Tree, nodes: usize)
+        requires nodes_le_max_nodes { nodes ≤ max_nodes }
+        requires nodes_in_bounds { Room self.old (tree_lines tree (nodes - 1)) }
+        ensures { Adds self.old (tree_lines tree (nodes - 1)) self.new }
+    {
+        for i in 1..nodes {
+            self.tree_line(tree, i);
+        }
     }
-}
 
-fn side_in(answer: PairAnswer) -> u64
-    ensures { result ≡ side_in answer }
-{
-    match answer {
-        PairAnswer::Refused(_) => 0,
-        PairAnswer::Found {
-            weight: _,
-            node: _,
-            side,
-            size: _,
-        } => side,
+    // No pair of two nodes of a sound plan is refused; zeros where one is.
+    fn pair_line(&mut self, p: Plan, s: usize, t: usize)
+        requires { Room self.old (pair_line p s t) }
+        ensures { Adds self.old (pair_line p s t) self.new }
+    {
+        let (weight, side) = match plan::pair(p, s, t) {
+            Ok(found) => (found.weight, found.side),
+            Err(_) => (0, 0),
+        };
+        self.line(b"pair", &[s as u64, t as u64, weight as u64, side]);
     }
-}
 
-fn pair_line(out: &mut [u8], place: usize, p: Plan, s: usize, t: usize) -> usize
-    requires { place + length (pair_line p s t) ≤ length out.old }
-    ensures { Puts out.old place (pair_line p s t) result out.new }
-{
-    let answer = plan::pair(p, s, t);
-    let weight = weight_of(answer);
-    let side = side_in(answer);
-    let numbers = [s as u64, t as u64, weight as u64, side];
-    put_line(&mut *out, place, b"pair", &numbers)
-}
-
-// Node s with every node above it.
-fn pairs_of(out: &mut [u8], place: usize, p: Plan, s: usize) -> usize
-    requires s_lt_nodes { s < p.network.nodes }
-    requires s_in_bounds { place + length (pairs_of p s (p.network.nodes - suc s)) ≤ length out.old }
-    ensures { Puts out.old place (pairs_of p s (p.network.nodes - suc s)) result out.new }
-{
-    let nodes = p.network.nodes;
-    let mut next = place;
-    for t in s + 1..nodes {
-        next = pair_line(&mut *out, next, p, s, t);
+    // Node s with every node above it.
+    fn pairs_of(&mut self, p: Plan, s: usize)
+        requires s_lt_nodes { s < p.network.nodes }
+        requires s_in_bounds { Room self.old (pairs_of p s (p.network.nodes - suc s)) }
+        ensures { Adds self.old (pairs_of p s (p.network.nodes - suc s)) self.new }
+    {
+        for t in s + 1..p.network.nodes {
+            self.pair_line(p, s, t);
+        }
     }
-    next
-}
 
-fn pair_lines(out: &mut [u8], place: usize, p: Plan) -> usize
-    requires { place + length (pair_lines p p.network.nodes) ≤ length out.old }
-    ensures { Puts out.old place (pair_lines p p.network.nodes) result out.new }
-{
-    let nodes = p.network.nodes;
-    let mut next = place;
-    for s in 0..nodes {
-        next = pairs_of(&mut *out, next, p, s);
+    fn pair_lines(&mut self, p: Plan)
+        requires { Room self.old (pair_lines p p.network.nodes) }
+        ensures { Adds self.old (pair_lines p p.network.nodes) self.new }
+    {
+        for s in 0..p.network.nodes {
+            self.pairs_of(p, s);
+        }
     }
-    next
-}
 
-pub fn plan_lines(out: &mut [u8], p: Plan) -> usize
-    requires nodes_le_max_nodes { p.network.nodes ≤ max_nodes }
-    requires p_in_bounds { length (plan_lines p) ≤ length out.old }
-    ensures { Puts out.old 0 (plan_lines p) result out.new }
-{
-    let next = tree_lines(&mut *out, 0, p.tree, p.network.nodes);
-    pair_lines(&mut *out, next, p)
+    fn plan_lines(&mut self, p: Plan)
+        requires nodes_le_max_nodes { p.network.nodes ≤ max_nodes }
+        requires p_in_bounds { Room self.old (plan_lines p) }
+        ensures { Adds self.old (plan_lines p) self.new }
+    {
+        self.tree_lines(p.tree, p.network.nodes);
+        self.pair_lines(p);
+    }
+
+    #[tactic(auto, unfolding(crate::specs::Listing::refused_line))]
+    fn refused_line(&mut self, fault: Fault)
+        requires { Room self.old (refused_line (refusal_number fault.refusal) fault.place) }
+        ensures { Adds self.old (refused_line (refusal_number fault.refusal) fault.place) self.new }
+    {
+        let number = fault.refusal.number();
+        self.line(b"refused", &[number as u64, fault.place as u64]);
+    }
+
+    pub fn file(&mut self, file: &[u8])
+        requires { Room self.old (listing_of file.now) }
+        ensures { Adds self.old (listing_of file.now) self.new }
+    {
+        match plan::open(file) {
+            Ok(plan) => self.plan_lines(plan),
+            Err(fault) => self.refused_line(fault),
+        }
+    }
 }

@@ -1,37 +1,25 @@
 // Residual capacities (the paper: each link has two spare capacities, one each way).
-ghost use Rattle.std.specs.Prelude.{true, cond, ◌≡◌, ◌+◌, ◌*◌, ◌≤◌};
-ghost use Rattle.max_flow.specs.code.Residuals.{full_residual, lesser_of, row_after, sent_along, Along};
+ghost use Rattle.std.specs.Prelude.{[], cond, ◌≡◌, ◌∷◌, ◌+◌, ◌*◌, ◌≤◌};
+ghost use Rattle.max_flow.specs.code.Residuals.{full_residual, row_after, sent_along, MaySend};
 ghost use Rattle.min_cut.specs.code.Arcs.{forward};
 ghost use Rattle.network.specs.Limits.{max_capacity};
-ghost use Rattle.network.specs.Network.{network_fits};
 
-use network::{MAX_LINKS, Network};
+use flow_hints::Residual;
+use network::ValidNetwork;
 
 // no limit to what can be sent
-pub const UNLIMITED: u32 = 4_294_967_295;
+// Kept: an option of a limit would be asked for at each step, and this number is never reached.
+pub const UNLIMITED: u32 = u32::MAX;
 
-// Nothing is sent yet: each link may take its capacity each way.
-pub fn full_residual(net: Network) -> [[u32; 2]; MAX_LINKS]
-    requires { network_fits net ≡ true }
-    ensures { result ≡ full_residual net }
+// Nothing is sent yet: each link may take its capacity each way, and an unused place has none.
+pub fn full_residual(net: ValidNetwork) -> Residual
+    ensures { result ≡ full_residual net.network }
 {
-    let m = net.links;
-    let mut residual = [[0u32; 2]; MAX_LINKS];
-    for k in 0..m {
-        let c = net.capacity[k];
-        let row = [c, c];
-        residual[k] = row;
-    }
-    residual
-}
-
-pub fn lesser(a: u32, b: u32) -> u32
-    ensures { result ≡ lesser_of a b }
-{
-    if a <= b {
-        return a;
-    }
-    b
+    net.network.capacity.map(
+        |c|
+            ensures { result ≡ c ∷ c ∷ [] }
+        { [c, c] },
+    )
 }
 
 // a link's residual capacities x and y after d more is sent along arc e of it: what is taken from one way is added to
@@ -47,13 +35,12 @@ fn row_after(x: u32, y: u32, e: usize, d: u32) -> [u32; 2]
 }
 
 // d more is sent along arc e
-pub fn along(residual: &mut [[u32; 2]; MAX_LINKS], e: usize, d: u32)
-    requires { (net : Network) × Along net residual.old e d }
+pub fn along(residual: &mut Residual, e: usize, d: u32)
+    requires { MaySend residual.old e d }
     ensures { residual.new ≡ sent_along residual.old e d }
 {
     let k = e / 2;
     let x = residual[k][0];
     let y = residual[k][1];
-    let row = row_after(x, y, e, d);
-    residual[k] = row;
+    residual[k] = row_after(x, y, e, d);
 }

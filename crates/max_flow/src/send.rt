@@ -1,16 +1,29 @@
 // Flow sent in phases: along arcs that the hints name, from ring to ring around t. Each arc is tested before it is
 // used, so that what is sent is a flow whatever the hints say.
 ghost use Rattle.std.specs.Prelude.{◌≡◌, ◌<◌, ◌≤◌};
-ghost use Rattle.max_flow.specs.code.Residuals.{Flowing};
 ghost use Rattle.max_flow.specs.LeastCut.{Endpoints};
-ghost use Rattle.max_flow.specs.code.Send.{other_way, Consistent, Way, Sends};
-ghost use Rattle.network.specs.declared.Network.{Network};
+ghost use Rattle.max_flow.specs.code.Residuals.{Balanced, Flowing};
+ghost use Rattle.max_flow.specs.code.Send.{other_way, Sends, Way};
 ghost use Rattle.network.specs.Limits.{max_arcs, max_nodes};
 
-use crate::residual::{UNLIMITED, along, lesser};
-use flow_hints::{HINTS, TABLE, arc_by, leads, note_sent, note_short, note_shut, sweep};
-use network::{MAX_ARCS, MAX_LINKS, MAX_NODES};
+use crate::flow::Flow;
+use crate::prepared::Prepared;
+use crate::residual::{UNLIMITED, along};
+use flow_hints::{Residual, Step, room};
+use network::{MAX_ARCS, MAX_NODES};
 use node_set::{add, contains, lowest, single};
+
+// What is to be sent on: at most `limit`, from `node` and on to ring `ring`. `on` are the nodes on the way to `node`,
+// and `node`: arcs that lead to those keep their room.
+#[derive(Clone, Copy)]
+struct Load {
+    node: usize,
+    ring: usize,
+    on: u64,
+    limit: u32,
+    ghost node_within: { node < max_nodes },
+    ghost ring_within: { ring < max_nodes },
+}
 
 // the arc back
 fn other_way(j: usize) -> usize
@@ -20,174 +33,134 @@ fn other_way(j: usize) -> usize
     j + 1 - 2 * (j % 2)
 }
 
-fn wide(x: u8) -> usize
-    ensures { result ≡ x }
-{
-    x as usize
-}
-
-// What may be sent along arc j, if it leads from u to x and x is not one of `on`; else 0.
-fn allowed(
-    to: &[u8; MAX_ARCS],
-    residual: &[[u32; 2]; MAX_LINKS],
-    on: u64,
-    u: usize,
-    x: usize,
-    j: usize,
-) -> u32
-    requires { (x < max_nodes) × (j < max_arcs) }
-    ensures { (net : Network)
-        → Consistent net to.now residual.now
-        → 0 < result
-        → Way net residual.now on u x j result }
-{
-    let tip = wide(to[j]);
-    if tip != x {
-        return 0;
-    }
-    let back = other_way(j);
-    let tail = wide(to[back]);
-    if tail != u {
-        return 0;
-    }
-    if contains(on, x) {
-        return 0;
-    }
-    residual[j / 2][j % 2]
-}
-
-// Sends at most `limit` from u to t along arc j to x, of ring l, and on from there; how much that is. `on` are the
-// nodes on the way to u, and u: arcs that lead to those keep their room.
-#[cycle(send_send_by_send_from)]
-fn send_by(
-    to: &[u8; MAX_ARCS],
-    table: &[u16; TABLE],
-    hints: &mut [u64; HINTS],
-    residual: &mut [[u32; 2]; MAX_LINKS],
-    t: usize,
-    u: usize,
-    x: usize,
-    j: usize,
-    l: usize,
-    on: u64,
-    limit: u32,
-) -> u32
-    requires t_lt_max_nodes { (t < max_nodes) × (u < max_nodes) × (x < max_nodes) × (j < max_arcs) × (l < max_nodes) }
-    requires consistent { (net : Network) × Consistent net to.now residual.old }
-    ensures { (net : Network)
-        → Consistent net to.now residual.old
-        → Sends net t on u limit result residual.old residual.new }
-{
-    let spare = allowed(to, &*residual, on, u, x, j);
-    let want = lesser(spare, limit);
-    if want == 0 {
-        note_shut(hints, u, x);
-        return 0;
-    }
-    let d = send_from(to, table, hints, residual, t, x, l, add(on, x), want);
-    along(residual, j, d);
-    note_sent(hints, table, u, x, j, spare, d);
-    note_short(hints, x, l, want, d);
-    d
-}
-
-// The same from x, of ring l: all of it at t itself, else what can be sent on to the ring below.
-#[cycle(send_send_by_send_from)]
-fn send_from(
-    to: &[u8; MAX_ARCS],
-    table: &[u16; TABLE],
-    hints: &mut [u64; HINTS],
-    residual: &mut [[u32; 2]; MAX_LINKS],
-    t: usize,
-    x: usize,
-    l: usize,
-    on: u64,
-    limit: u32,
-) -> u32
-    requires t_lt_max_nodes { (t < max_nodes) × (x < max_nodes) × (l < max_nodes) }
-    requires consistent { (net : Network) × Consistent net to.now residual.old }
-    ensures { (net : Network)
-        → Consistent net to.now residual.old
-        → Sends net t on x limit result residual.old residual.new }
-{
-    if x == t {
-        return limit;
-    }
-    if l == 0 {
-        return 0;
-    }
-    send(to, table, hints, residual, t, x, l - 1, on, limit)
-}
-
-// The same from u, along arcs that the hints name to ring l, as long as they name one. x and j are what was tried last.
-#[cycle(send_send_by_send_from)]
-fn send(
-    to: &[u8; MAX_ARCS],
-    table: &[u16; TABLE],
-    hints: &mut [u64; HINTS],
-    residual: &mut [[u32; 2]; MAX_LINKS],
-    t: usize,
-    u: usize,
-    l: usize,
-    on: u64,
-    limit: u32,
-) -> u32
-    requires t_lt_max_nodes { (t < max_nodes) × (u < max_nodes) × (l < max_nodes) }
-    requires consistent { (net : Network) × Consistent net to.now residual.old }
-    ensures { (net : Network)
-        → Consistent net to.now residual.old
-        → Sends net t on u limit result residual.old residual.new }
-{
-    let mut sent: u32 = 0;
-    let mut x = u;
-    let mut j: usize = 0;
-    for k in 0..MAX_ARCS {
-        let rest = leads(&*hints, u, l);
-        if rest == 0 {
-            return sent;
+impl Prepared {
+    // What may be sent by `step`, if its arc leads from u to its node and that is not one of `on`; else 0.
+    // Kept: it is an amount, of which the lesser with a limit is taken; an option would be made 0 there again.
+    fn allowed(&self, residual: &Residual, on: u64, u: usize, step: Step) -> u32
+        requires step_lt_max_nodes { step.node < max_nodes }
+        requires balanced { Balanced self.now.network residual.now }
+        ensures { 0 < result → Way self.now.network residual.now on u step.node step.arc result }
+    {
+        let x = step.node;
+        let j = step.arc;
+        let tip = self.arcs.to[j] as usize;
+        if tip != x {
+            return 0;
         }
-        let y = lowest(rest);
-        j = arc_by(table, &*residual, u, y, x, j);
-        x = y;
-        let d = send_by(to, table, hints, residual, t, u, x, j, l, on, limit - sent);
-        sent = sent + d;
-        if sent == limit {
-            return sent;
+        let back = other_way(j);
+        let tail = self.arcs.to[back] as usize;
+        if tail != u {
+            return 0;
         }
+        if contains(on, x) {
+            return 0;
+        }
+        room(residual, j)
     }
-    sent
-}
 
-// Flow is sent from s to t in phases, as long as the hints find a way. `total` is that of the flow which `residual`
-// holds; each phase raises it by what it sends, and the result is that of the flow then.
-pub fn send_all(
-    to: &[u8; MAX_ARCS],
-    table: &[u16; TABLE],
-    hints: &mut [u64; HINTS],
-    residual: &mut [[u32; 2]; MAX_LINKS],
-    s: usize,
-    t: usize,
-    total: u32,
-) -> u32
-    requires { (net : Network)
-        × Endpoints net s t
-        × Consistent net to.now residual.old
-        × Flowing net s t total residual.old }
-    ensures lower_bound { total ≤ result }
-    ensures flowing { (net : Network)
-        → Consistent net to.now residual.old
-        → Flowing net s t total residual.old
-        → Flowing net s t result residual.new }
-{
-    let mut raised = total;
-    for k in 0..MAX_NODES {
-        let level = sweep(hints, s, t);
-        if level == 0 {
-            return raised;
+    // Sends the load to t by `step`, and on from there; how much that is.
+    #[cycle(send_send_by_send_from)]
+    fn send_by(&self, flow: &mut Flow, t: usize, load: Load, step: Step) -> u32
+        requires t_lt_max_nodes { t < max_nodes }
+        requires step_lt_max_nodes { step.node < max_nodes }
+        requires balanced { Balanced self.now.network flow.old.residual }
+        ensures { Sends self.now.network t load.on load.node load.limit result flow.old.residual flow.new.residual }
+    {
+        let spare = self.allowed(&flow.residual, load.on, load.node, step);
+        let want = spare.min(load.limit);
+        if want == 0 {
+            flow.hints.note_shut(load.node, step.node);
+            return 0;
         }
-        let on = single(s);
-        let d = send(to, table, hints, residual, t, s, level - 1, on, UNLIMITED);
-        raised = raised + d;
+        let next = Load {
+            node: step.node,
+            ring: load.ring,
+            on: add(load.on, step.node),
+            limit: want,
+        };
+        let d = self.send_from(flow, t, next);
+        along(&mut flow.residual, step.arc, d);
+        flow.hints.note_sent(&self.table, load.node, step, spare, d);
+        flow.hints.note_short(step.node, load.ring, want, d);
+        d
     }
-    raised
+
+    // The same from a node of the load's ring: all of it at t itself, else what can be sent on to the ring below.
+    #[cycle(send_send_by_send_from)]
+    fn send_from(&self, flow: &mut Flow, t: usize, load: Load) -> u32
+        requires t_lt_max_nodes { t < max_nodes }
+        requires balanced { Balanced self.now.network flow.old.residual }
+        ensures { Sends self.now.network t load.on load.node load.limit result flow.old.residual flow.new.residual }
+    {
+        if load.node == t {
+            return load.limit;
+        }
+        if load.ring == 0 {
+            return 0;
+        }
+        let next = Load {
+            node: load.node,
+            ring: load.ring - 1,
+            on: load.on,
+            limit: load.limit,
+        };
+        self.send(flow, t, next)
+    }
+
+    // The same along arcs that the hints name to the load's ring, as long as they name one.
+    #[cycle(send_send_by_send_from)]
+    fn send(&self, flow: &mut Flow, t: usize, load: Load) -> u32
+        requires t_lt_max_nodes { t < max_nodes }
+        requires balanced { Balanced self.now.network flow.old.residual }
+        ensures { Sends self.now.network t load.on load.node load.limit result flow.old.residual flow.new.residual }
+    {
+        let mut sent: u32 = 0;
+        let mut last: Option<Step> = None;
+        for _ in 0..MAX_ARCS {
+            let rest = flow.hints.leads(load.node, load.ring);
+            if rest == 0 {
+                return sent;
+            }
+            let step = self
+                .table
+                .step(&flow.residual, load.node, lowest(rest), last);
+            last = Some(step);
+            let left = Load {
+                node: load.node,
+                ring: load.ring,
+                on: load.on,
+                limit: load.limit - sent,
+            };
+            let d = self.send_by(flow, t, left, step);
+            sent = sent + d;
+            if sent == load.limit {
+                return sent;
+            }
+        }
+        sent
+    }
+
+    // Flow is sent from s to t in phases, as long as the hints find a way. `total` is that of the flow which `flow`
+    // holds; each phase raises it by what it sends, and the result is that of the flow then.
+    pub(crate) fn send_all(&self, flow: &mut Flow, s: usize, t: usize, total: u32) -> u32
+        requires { Endpoints self.now.network s t × Flowing self.now.network s t total flow.old.residual }
+        ensures lower_bound { total ≤ result }
+        ensures flowing { Flowing self.now.network s t result flow.new.residual }
+    {
+        let mut raised = total;
+        for _ in 0..MAX_NODES {
+            let Some(ring) = flow.hints.sweep(s, t) else {
+                return raised;
+            };
+            let load = Load {
+                node: s,
+                ring,
+                on: single(s),
+                limit: UNLIMITED,
+            };
+            let d = self.send(flow, t, load);
+            raised = raised + d;
+        }
+        raised
+    }
 }

@@ -2,3 +2,6 @@
 pub mod NetworkLaws
 pub mod ChangeLaws
 pub mod IncidenceLaws
+pub mod BlankWords
+pub mod LinksLaws
+pub mod RefusalLaws

@@ -1,5 +1,12 @@
 -- The refusal numbers of the table of checks, each named once. 0 is no refusal: accepted.
-use Rattle.std.specs.Prelude.{ℕ}
+use Rattle.std.specs.Prelude.{ℕ, Result, Ok, Err}
+use Rattle.network.specs.declared.refusals.Refusal.{Refusal}
+use Rattle.network.specs.declared.refusals.Refusal.TheVariants.{EndsEarly, NumberTooLong, ZeroGroup, BadNodeCount}
+use Rattle.network.specs.declared.refusals.Refusal.TheVariants.{TooManyLinks, EndNotANode, EqualEnds, LinkTooLarge}
+use Rattle.network.specs.declared.refusals.Refusal.TheVariants.{BytesFollow, NoSuchLink, CapacityTooLarge, StackFull}
+use Rattle.network.specs.declared.refusals.Refusal.TheVariants.{NothingToUndo, NoSuchNode, SameNode, FlowLength}
+use Rattle.network.specs.declared.refusals.Refusal.TheVariants.{DemandTooLarge, BufferTooShort, NotSound}
+use Rattle.network.specs.declared.refusals.Refusal.TheVariants.{TooManyReadings}
 
 -- ---- a file: the number that is faulty, or what follows the last
 -- it ends before a number's last byte
@@ -70,3 +77,31 @@ not_sound = 19
 -- ---- a gate's record
 abbrev pub too_many_readings : ℕ
 too_many_readings = 20
+
+-- ---- the number of a refusal in the code
+abbrev pub refusal_number : Refusal → ℕ
+refusal_number EndsEarly = ends_early
+refusal_number NumberTooLong = number_too_long
+refusal_number ZeroGroup = zero_group
+refusal_number BadNodeCount = bad_node_count
+refusal_number TooManyLinks = too_many_links
+refusal_number EndNotANode = end_not_a_node
+refusal_number EqualEnds = equal_ends
+refusal_number LinkTooLarge = link_too_large
+refusal_number BytesFollow = bytes_follow
+refusal_number NoSuchLink = no_such_link
+refusal_number CapacityTooLarge = capacity_too_large
+refusal_number StackFull = stack_full
+refusal_number NothingToUndo = nothing_to_undo
+refusal_number NoSuchNode = no_such_node
+refusal_number SameNode = same_node
+refusal_number FlowLength = flow_length
+refusal_number DemandTooLarge = demand_too_large
+refusal_number BufferTooShort = buffer_too_short
+refusal_number NotSound = not_sound
+refusal_number TooManyReadings = too_many_readings
+
+-- that of a call: 0 where it is accepted
+abbrev pub outcome_number : {A : Type 0} → Result A Refusal → ℕ
+outcome_number (Ok x) = 0
+outcome_number (Err e) = refusal_number e

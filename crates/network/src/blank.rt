@@ -1,55 +1,50 @@
-// Whether all places from n on are 0, of arrays of each width: the unused places of a record.
-ghost use Rattle.std.specs.Prelude.{◌≡◌};
+// Whether all places from n on are 0, of arrays of any word: the unused places of a record.
+ghost use Rattle.std.specs.Prelude.{◌≡◌, ℕ, map, eqb};
 ghost use Rattle.base.specs.Basics.{blank_from};
 
-pub fn blank_from_u8(xs: &[u8], n: usize) -> bool
-    ensures { result ≡ blank_from n xs.now }
-{
-    let mut i = n;
-    while i < xs.len() {
-        if xs[i] != 0 {
-            return false;
-        }
-        i += 1;
-    }
-    true
+// An unsigned word, by its number.
+pub trait Word: Copy {
+    ghost value: { Self → ℕ };
+
+    fn is_zero(self) -> bool
+        ensures { result ≡ eqb (value self) 0 };
 }
 
-pub fn blank_from_u16(xs: &[u16], n: usize) -> bool
-    ensures { result ≡ blank_from n xs.now }
-{
-    let mut i = n;
-    while i < xs.len() {
-        if xs[i] != 0 {
-            return false;
-        }
-        i += 1;
+// Kept: an impl for each type; `Into<u64>` would give no test of 0 but a cast, and its contract at each of four types.
+impl Word for u8 {
+    ghost value = { λ x. x };
+
+    fn is_zero(self) -> bool {
+        self == 0
     }
-    true
 }
 
-pub fn blank_from_u32(xs: &[u32], n: usize) -> bool
-    ensures { result ≡ blank_from n xs.now }
-{
-    let mut i = n;
-    while i < xs.len() {
-        if xs[i] != 0 {
-            return false;
-        }
-        i += 1;
+impl Word for u16 {
+    ghost value = { λ x. x };
+
+    fn is_zero(self) -> bool {
+        self == 0
     }
-    true
 }
 
-pub fn blank_from_u64(xs: &[u64], n: usize) -> bool
-    ensures { result ≡ blank_from n xs.now }
-{
-    let mut i = n;
-    while i < xs.len() {
-        if xs[i] != 0 {
-            return false;
-        }
-        i += 1;
+impl Word for u32 {
+    ghost value = { λ x. x };
+
+    fn is_zero(self) -> bool {
+        self == 0
     }
-    true
+}
+
+impl Word for u64 {
+    ghost value = { λ x. x };
+
+    fn is_zero(self) -> bool {
+        self == 0
+    }
+}
+
+pub fn blank_from<T: Word>(xs: &[T], n: usize) -> bool
+    ensures { result ≡ blank_from n (map T.value xs.now) }
+{
+    xs.iter().skip(n).all(|x| x.is_zero())
 }

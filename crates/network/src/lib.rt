@@ -4,22 +4,21 @@
 mod blank; // unused places
 mod cut; // the value of a cut
 mod incidence; // each node's own arcs, for a search to walk
-mod refusals; // the refusal numbers
+mod link; // one link
+mod refusals; // the refusals and their numbers
+mod valid; // a network within the limits
 
-ghost use Rattle.std.specs.Prelude.{◌≡◌, ◌≤◌};
-ghost use Rattle.base.specs.Basics.{all};
+ghost use Rattle.std.specs.Prelude.{◌≡◌, ◌≤◌, ◌<◌};
+ghost use Rattle.base.specs.Basics.{at, all};
 ghost use Rattle.network.specs.Limits.{max_links};
-ghost use Rattle.network.specs.Network.{link_within, link_fits, network_fits};
+ghost use Rattle.network.specs.Network.{link_fits, network_fits};
 
-pub use blank::{blank_from_u8, blank_from_u16, blank_from_u32, blank_from_u64};
+pub use blank::{Word, blank_from};
 pub use cut::cut_value;
 pub use incidence::{Incidence, incidence_of};
-pub use refusals::{
-    BAD_NODE_COUNT, BUFFER_TOO_SHORT, BYTES_FOLLOW, CAPACITY_TOO_LARGE, DEMAND_TOO_LARGE,
-    END_NOT_A_NODE, ENDS_EARLY, EQUAL_ENDS, FLOW_LENGTH, LINK_TOO_LARGE, NO_SUCH_LINK,
-    NO_SUCH_NODE, NOT_SOUND, NOTHING_TO_UNDO, NUMBER_TOO_LONG, SAME_NODE, STACK_FULL,
-    TOO_MANY_LINKS, TOO_MANY_READINGS, ZERO_GROUP,
-};
+pub use link::Link;
+pub use refusals::Refusal;
+pub use valid::ValidNetwork;
 
 // The limits (docs/SCOPE.md, 1), as in specs/Limits.antt. Nodes (its houses) of a network.
 pub const MAX_NODES: usize = 64;
@@ -37,7 +36,7 @@ pub const MAX_GROUPS: usize = 3;
 // A network: nodes 0 to nodes - 1, and links of which link k joins a[k] and b[k] and has capacity[k]. Unused places are
 // 0.
 #[repr(C)]
-#[derive(Clone, Copy)]
+#[derive(Clone, Copy, Debug, PartialEq, Eq)]
 pub struct Network {
     pub nodes: usize,
     pub links: usize,
@@ -46,58 +45,40 @@ pub struct Network {
     pub capacity: [u32; MAX_LINKS],
 }
 
-// Whether a link from a to b of this capacity may stand in a network of n nodes.
-fn link_within(n: usize, a: u8, b: u8, capacity: u32) -> bool
-    ensures { result ≡ link_within n a b capacity }
-{
-    if a as usize >= n {
-        return false;
-    }
-    if b as usize >= n {
-        return false;
-    }
-    if b == a {
-        return false;
-    }
-    capacity <= MAX_CAPACITY
-}
-
-fn links_fit(net: Network) -> bool
-    requires { net.links ≤ max_links }
-    ensures { result ≡ all net.links (link_fits net) }
-{
-    let n = net.nodes;
-    let m = net.links;
-    for k in 0..m {
-        if !link_within(n, net.a[k], net.b[k], net.capacity[k]) {
-            return false;
+impl Network {
+    // link k by itself
+    pub fn link(&self, k: usize) -> Link
+        requires { k < max_links }
+        ensures a { result.a ≡ at self.now.a k }
+        ensures b { result.b ≡ at self.now.b k }
+        ensures capacity { result.capacity ≡ at self.now.capacity k }
+    {
+        Link {
+            a: self.a[k],
+            b: self.b[k],
+            capacity: self.capacity[k],
         }
     }
-    true
+
+    fn links_fit(&self) -> bool
+        requires { self.now.links ≤ max_links }
+        ensures { result ≡ all self.now.links (link_fits self.now) }
+    {
+        (0..self.links).all(|k| self.link(k).is_within(self.nodes))
+    }
 }
 
 // Whether a record, whatever it holds, is a network within the limits.
+#[tactic(auto, unfolding(crate::specs::Network::network_fits, base::specs::Basics::every))]
 pub fn fits(net: Network) -> bool
     ensures { result ≡ network_fits net }
 {
     let m = net.links;
-    if net.nodes < 1 {
-        return false;
-    }
-    if net.nodes > MAX_NODES {
-        return false;
-    }
-    if m > MAX_LINKS {
-        return false;
-    }
-    if !links_fit(net) {
-        return false;
-    }
-    if !blank_from_u8(&net.a, m) {
-        return false;
-    }
-    if !blank_from_u8(&net.b, m) {
-        return false;
-    }
-    blank_from_u32(&net.capacity, m)
+    1 <= net.nodes
+        && net.nodes <= MAX_NODES
+        && m <= MAX_LINKS
+        && net.links_fit()
+        && blank_from(&net.a, m)
+        && blank_from(&net.b, m)
+        && blank_from(&net.capacity, m)
 }

@@ -1,44 +1,51 @@
-// The refusal numbers of the table of checks, as in specs/Refusals.antt; 0 is no refusal.
+// The refusals of the table of checks, each with its number, as in specs/Refusals.antt.
+ghost use Rattle.std.specs.Prelude.{◌≡◌};
+ghost use Rattle.network.specs.Refusals.{refusal_number};
 
-// a file: the number that is faulty, or what follows the last
-pub const ENDS_EARLY: u32 = 1;
+use std::error::Error;
+use std::fmt;
 
-pub const NUMBER_TOO_LONG: u32 = 2;
+#[derive(Clone, Copy, Debug, PartialEq, Eq)]
+pub enum Refusal {
+    // a file: the number that is faulty, or what follows the last
+    EndsEarly = 1,
+    NumberTooLong = 2,
+    ZeroGroup = 3,
+    BadNodeCount = 4,
+    TooManyLinks = 5,
+    EndNotANode = 6,
+    EqualEnds = 7,
+    LinkTooLarge = 8,
+    BytesFollow = 9,
+    // calls on a plan
+    NoSuchLink = 10,
+    CapacityTooLarge = 11,
+    StackFull = 12,
+    NothingToUndo = 13,
+    NoSuchNode = 14,
+    SameNode = 15,
+    FlowLength = 16,
+    DemandTooLarge = 17,
+    BufferTooShort = 18,
+    NotSound = 19,
+    // a gate's record
+    TooManyReadings = 20,
+}
 
-pub const ZERO_GROUP: u32 = 3;
+impl Refusal {
+    // its number in the table
+    pub fn number(self) -> u32
+        ensures { result ≡ refusal_number self }
+    {
+        self as u32
+    }
+}
 
-pub const BAD_NODE_COUNT: u32 = 4;
+// As in the table, by its number.
+impl fmt::Display for Refusal {
+    fn fmt<W: fmt::Write>(&self, f: &mut fmt::Formatter<W>) -> fmt::Result {
+        write!(f, "{}", self.number())
+    }
+}
 
-pub const TOO_MANY_LINKS: u32 = 5;
-
-pub const END_NOT_A_NODE: u32 = 6;
-
-pub const EQUAL_ENDS: u32 = 7;
-
-pub const LINK_TOO_LARGE: u32 = 8;
-
-pub const BYTES_FOLLOW: u32 = 9;
-
-// calls on a plan
-pub const NO_SUCH_LINK: u32 = 10;
-
-pub const CAPACITY_TOO_LARGE: u32 = 11;
-
-pub const STACK_FULL: u32 = 12;
-
-pub const NOTHING_TO_UNDO: u32 = 13;
-
-pub const NO_SUCH_NODE: u32 = 14;
-
-pub const SAME_NODE: u32 = 15;
-
-pub const FLOW_LENGTH: u32 = 16;
-
-pub const DEMAND_TOO_LARGE: u32 = 17;
-
-pub const BUFFER_TOO_SHORT: u32 = 18;
-
-pub const NOT_SOUND: u32 = 19;
-
-// a gate's record
-pub const TOO_MANY_READINGS: u32 = 20;
+impl Error for Refusal {}

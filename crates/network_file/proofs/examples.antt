@@ -1,2 +1,3 @@
 -- Worked examples, by evaluation.
 pub mod Readings
+pub mod Results

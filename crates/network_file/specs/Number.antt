@@ -4,8 +4,11 @@ use Rattle.std.specs.Prelude.{ℕ, zero, suc, ◌+◌, ◌-◌, ◌*◌, ◌/◌
 use Rattle.base.specs.Basics.{pick, at}
 use Rattle.network.specs.Refusals.{ends_early, number_too_long, zero_group}
 use Rattle.network.specs.Limits.{max_groups}
-use Rattle.network_file.specs.declared.Number.{Number}
-use Rattle.network_file.specs.declared.Number.TheVariants.{Value, Refused}
+
+-- what stands at the front of a part of a file: a number with the bytes that it has, or a refusal number
+pub data Number : Type 0 where
+  Value : (value size : ℕ) → Number
+  Refused : (number : ℕ) → Number
 
 -- the number that byte x, with its top bit set, begins, by what follows x: a zero there is a last group of several that
 -- is zero

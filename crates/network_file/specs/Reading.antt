@@ -8,10 +8,34 @@ use Rattle.network.specs.Limits.{max_nodes, max_links, max_capacity}
 use Rattle.network.specs.Network.{no_network}
 use Rattle.network.specs.declared.Network.{Network}
 use Rattle.network_file.specs.Number.{read_number, refusal_in, value_in, size_in}
-use Rattle.network_file.specs.declared.Taken.{Taken}
-use Rattle.network_file.specs.declared.Link.{Link}
-use Rattle.network_file.specs.declared.Progress.{Progress}
-use Rattle.network_file.specs.declared.Reading.{Reading}
+
+-- ---- what each part of a file reads as, with its refusal number, or 0
+-- a number taken from the file: its value and the place behind it; refused, its own place
+pub record Taken : Type 0 where
+  pub number : ℕ
+  pub value : ℕ
+  pub next : ℕ
+
+-- a link that was read: the place behind it, its ends and capacity; refused, the place of the faulty number
+pub record Link : Type 0 where
+  pub number : ℕ
+  pub place : ℕ
+  pub a : ℕ
+  pub b : ℕ
+  pub capacity : ℕ
+
+-- how far a file has been read: the place where reading goes on and the network so far; refused, its place and no
+-- network
+pub record Progress : Type 0 where
+  pub number : ℕ
+  pub place : ℕ
+  pub network : Network
+
+-- a file: number and place of the first fault beside a network of all zeros; or 0, 0 and the network
+pub record Reading : Type 0 where
+  pub number : ℕ
+  pub place : ℕ
+  pub network : Network
 
 -- ---- a number
 -- the rows of n and m

@@ -7,7 +7,11 @@ use Rattle.network.specs.Refusals.{buffer_too_short}
 use Rattle.network.specs.Limits.{max_nodes, max_links, max_capacity}
 use Rattle.network.specs.declared.Network.{Network}
 use Rattle.network_file.specs.Number.{number_bytes, bytes_of}
-use Rattle.network_file.specs.declared.FileWritten.{FileWritten}
+
+-- what writing a file gives: its length; or a refusal number and 0
+pub record FileWritten : Type 0 where
+  pub number : ℕ
+  pub length : ℕ
 
 abbrev pub bytes_of_link : ℕ → ℕ → ℕ → List ℕ
 bytes_of_link a b c = number_bytes a ++ (number_bytes b ++ number_bytes c)

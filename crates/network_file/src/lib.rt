@@ -9,7 +9,7 @@ mod writer; // a network written into a file
 ghost use Rattle.std.specs.Prelude.{◌≡◌};
 ghost use Rattle.network_file.specs.Writing.{max_file};
 
-use network::{MAX_CAPACITY, MAX_LINKS, MAX_NODES, Network};
+use network::{MAX_CAPACITY, MAX_LINKS, MAX_NODES, Refusal};
 
 // The bytes of the highest n, m, end and capacity: one, and one more for each further group of seven bits.
 const NODES_BYTES: usize = 1 + (MAX_NODES >= 1 << 7) as usize;
@@ -40,61 +40,25 @@ pub fn max_file() -> usize
     MAX_FILE
 }
 
-// What stands at the front of a part of a file: a number with the bytes that it has, or a refusal number.
-#[derive(Clone, Copy)]
-pub enum Number {
-    Value(u32, usize),
-    Refused(u32),
+// A number of the file, and how many bytes it has.
+#[derive(Clone, Copy, Debug, PartialEq, Eq)]
+pub struct FileNumber {
+    pub value: u32,
+    pub size: usize,
 }
 
-// What a file reads as: number and place of the first fault beside a network of all zeros; or 0, 0 and the network.
-#[derive(Clone, Copy)]
-pub struct Reading {
-    pub number: u32,
+// Why a file is refused, and the place of the fault.
+#[derive(Clone, Copy, Debug, PartialEq, Eq)]
+pub struct Fault {
+    pub refusal: Refusal,
     pub place: usize,
-    pub network: Network,
 }
 
-// What writing a file gives: its length; or a refusal number and 0.
-#[derive(Clone, Copy)]
-pub struct FileWritten {
-    pub number: u32,
-    pub length: usize,
-}
-
-// What a number of the file has to pass: n; at most so much, by the row of this number; an end; the other end of a.
+// What a number of the file has to pass: n; at most so much, or it is refused so; an end; the other end of a.
 #[derive(Clone, Copy)]
 enum Row {
     Nodes,
-    AtMost { most: u32, number: u32 },
+    AtMost { most: u32, refusal: Refusal },
     End { n: usize },
     OtherEnd { n: usize, a: u32 },
-}
-
-// A number taken from the file: number 0, its value and the place behind it; or a refusal number and its own place.
-#[derive(Clone, Copy)]
-struct Taken {
-    number: u32,
-    value: u32,
-    next: usize,
-}
-
-// A link that was read: number 0, the place behind it, its ends and capacity; or a refusal number and the place of
-// the faulty number.
-#[derive(Clone, Copy)]
-struct Link {
-    number: u32,
-    place: usize,
-    a: u8,
-    b: u8,
-    capacity: u32,
-}
-
-// How far a file has been read: number 0, the place where reading goes on and the network so far; or a refusal number,
-// its place and no network.
-#[derive(Clone, Copy)]
-struct Progress {
-    number: u32,
-    place: usize,
-    network: Network,
 }

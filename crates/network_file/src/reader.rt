@@ -1,189 +1,115 @@
 // A file read into a network. A number passes 1 to 3, then its own row, before the next is read.
 ghost use Rattle.std.specs.Prelude.{length, ◌≡◌, ◌≤◌};
 ghost use Rattle.network.specs.Limits.{max_nodes, max_links};
-ghost use Rattle.network_file.specs.Reading.{no_number, taken, no_link, link_at, stopped, going, unread};
-ghost use Rattle.network_file.specs.Reading.{read_links, read_all, read_by, read_file};
-ghost use Rattle.network_file.specs.code.Rows.{row_of, taken_next};
+ghost use Rattle.network_file.specs.Reading.{taken, link_at, going, unread, read_links, read_all, read_by, read_file};
+ghost use Rattle.network_file.specs.Results.{as_reading};
+ghost use Rattle.network_file.specs.code.Parts.{as_taken, as_link, as_progress, as_read};
+ghost use Rattle.network_file.specs.code.Rows.{row_of};
 
 use crate::numbers::read_number;
-use crate::rows::row_number;
-use crate::{Link, Number, Progress, Reading, Row, Taken};
-use network::{BYTES_FOLLOW, LINK_TOO_LARGE, MAX_CAPACITY, MAX_LINKS, Network, TOO_MANY_LINKS};
+use crate::{Fault, Row};
+use network::{Link, MAX_CAPACITY, MAX_LINKS, Network, Refusal, ValidNetwork};
 
-fn not_taken(number: u32, place: usize) -> Taken
-    ensures { result ≡ no_number number place }
-{
-    Taken {
-        number,
-        value: 0,
-        next: place,
-    }
+// A file, and the place where reading goes on.
+#[derive(Clone, Copy)]
+struct Reader<'a> {
+    file: &'a [u8],
+    place: usize,
 }
 
-// The number in what is left of the file from a place on, by its row.
-fn take(file: &[u8], place: usize, row: Row) -> Taken
-    requires { place ≤ length file.now }
-    ensures { result ≡ taken file.now place (row_of row) }
-{
-    match read_number(&file[place..]) {
-        Number::Refused(e) => not_taken(e, place),
-        Number::Value(v, size) => {
-            let e = row_number(row, v);
-            if e != 0 {
-                return not_taken(e, place);
-            }
-            Taken {
-                number: 0,
-                value: v,
-                next: place + size,
-            }
+impl Reader<'_> {
+    // The next number, by its row.
+    fn take(&mut self, row: Row) -> Result<u32, Fault>
+        requires { self.old.place ≤ length self.old.file.now }
+        ensures file { self.new.file.now ≡ self.old.file.now }
+        ensures value { as_taken self.new.place result ≡ taken self.old.file.now self.old.place (row_of row) }
+    {
+        let place = self.place;
+        let at_place = |refusal| Fault { refusal, place };
+        let number = read_number(&self.file[place..]).map_err(at_place)?;
+        row.check(number.value).map_err(at_place)?;
+        self.place = place + number.size;
+        Ok(number.value)
+    }
+
+    // The next link, of a network of n nodes; its third number passes the row given.
+    fn link(&mut self, n: usize, third: Row) -> Result<Link, Fault>
+        requires { (self.old.place ≤ length self.old.file.now) × (n ≤ max_nodes) }
+        ensures file { self.new.file.now ≡ self.old.file.now }
+        ensures value { as_link self.new.place result ≡ link_at (row_of third) self.old.file.now self.old.place n }
+    {
+        let a = self.take(Row::End { n })?;
+        let b = self.take(Row::OtherEnd { n, a })?;
+        let capacity = self.take(third)?;
+        Ok(Link {
+            a: a as u8,
+            b: b as u8,
+            capacity,
+        })
+    }
+
+    // The next m links, of a network of n nodes.
+    fn links(&mut self, n: usize, m: usize, third: Row) -> Result<Network, Fault>
+        requires { (self.old.place ≤ length self.old.file.now) × (n ≤ max_nodes) × (m ≤ max_links) }
+        ensures file { self.new.file.now ≡ self.old.file.now }
+        ensures value { as_progress self.new.place result
+            ≡ read_links (row_of third) self.old.file.now m (going self.old.place (unread n m)) }
+    {
+        let mut network = Network {
+            nodes: n,
+            links: m,
+            a: [0u8; MAX_LINKS],
+            b: [0u8; MAX_LINKS],
+            capacity: [0u32; MAX_LINKS],
+        };
+        // Kept: the network's arrays are the C interface's, and one index names the places of all three
+        for k in 0..m {
+            let link = self.link(n, third)?;
+            network.a[k] = link.a;
+            network.b[k] = link.b;
+            network.capacity[k] = link.capacity;
         }
+        Ok(network)
     }
-}
 
-// The number behind one that was taken; a stop stays.
-fn take_next(file: &[u8], t: Taken, row: Row) -> Taken
-    requires { t.next ≤ length file.now }
-    ensures { result ≡ taken_next file.now t (row_of row) }
-{
-    if t.number != 0 {
-        return t;
-    }
-    take(file, t.next, row)
-}
-
-fn no_link(number: u32, place: usize) -> Link
-    ensures { result ≡ no_link number place }
-{
-    Link {
-        number,
-        place,
-        a: 0,
-        b: 0,
-        capacity: 0,
-    }
-}
-
-// The link at a place, of a network of n nodes; its third number passes the row given.
-fn read_link(file: &[u8], place: usize, n: usize, third: Row) -> Link
-    requires { (place ≤ length file.now) × (n ≤ max_nodes) }
-    ensures { result ≡ link_at (row_of third) file.now place n }
-{
-    let a = take(file, place, Row::End { n });
-    let b = take_next(file, a, Row::OtherEnd { n, a: a.value });
-    let c = take_next(file, b, third);
-    if c.number != 0 {
-        return no_link(c.number, c.next);
-    }
-    Link {
-        number: 0,
-        place: c.next,
-        a: a.value as u8,
-        b: b.value as u8,
-        capacity: c.value,
-    }
-}
-
-fn stopped_at(number: u32, place: usize) -> Progress
-    ensures { result ≡ stopped number place }
-{
-    let network = Network {
-        nodes: 0,
-        links: 0,
-        a: [0u8; MAX_LINKS],
-        b: [0u8; MAX_LINKS],
-        capacity: [0u32; MAX_LINKS],
-    };
-    Progress {
-        number,
-        place,
-        network,
-    }
-}
-
-// The m links from a place on, of a network of n nodes.
-fn read_links(file: &[u8], n: usize, m: usize, place: usize, third: Row) -> Progress
-    requires { (place ≤ length file.now) × (n ≤ max_nodes) × (m ≤ max_links) }
-    ensures { result ≡ read_links (row_of third) file.now m (going place (unread n m)) }
-{
-    let mut a = [0u8; MAX_LINKS];
-    let mut b = [0u8; MAX_LINKS];
-    let mut capacity = [0u32; MAX_LINKS];
-    let mut next = place;
-    for k in 0..m {
-        let link = read_link(file, next, n, third);
-        if link.number != 0 {
-            return stopped_at(link.number, link.place);
+    // The whole file, from its first byte.
+    fn all(&mut self, third: Row) -> Result<Network, Fault>
+        requires { self.old.place ≡ 0 }
+        ensures { as_progress self.new.place result ≡ read_all (row_of third) self.old.file.now }
+    {
+        let links_row = Row::AtMost {
+            most: MAX_LINKS as u32,
+            refusal: Refusal::TooManyLinks,
+        };
+        let n = self.take(Row::Nodes)?;
+        let m = self.take(links_row)?;
+        let network = self.links(n as usize, m as usize, third)?;
+        if self.place < self.file.len() {
+            return Err(Fault {
+                refusal: Refusal::BytesFollow,
+                place: self.place,
+            });
         }
-        a[k] = link.a;
-        b[k] = link.b;
-        capacity[k] = link.capacity;
-        next = link.place;
+        Ok(network)
     }
-    let network = Network {
-        nodes: n,
-        links: m,
-        a,
-        b,
-        capacity,
-    };
-    Progress {
-        number: 0,
-        place: next,
-        network,
-    }
-}
-
-// The whole file.
-fn read_all(file: &[u8], third: Row) -> Progress
-    ensures { result ≡ read_all (row_of third) file.now }
-{
-    let n = take(file, 0, Row::Nodes);
-    let links_row = Row::AtMost {
-        most: MAX_LINKS as u32,
-        number: TOO_MANY_LINKS,
-    };
-    let m = take_next(file, n, links_row);
-    if m.number != 0 {
-        return stopped_at(m.number, m.next);
-    }
-    let p = read_links(file, n.value as usize, m.value as usize, m.next, third);
-    if p.number != 0 {
-        return p;
-    }
-    if p.place < file.len() {
-        return stopped_at(BYTES_FOLLOW, p.place);
-    }
-    p
 }
 
 // What a file reads as, where the third number of a link passes the row given.
-fn read_by(file: &[u8], third: Row) -> Reading
-    ensures { result ≡ read_by (row_of third) file.now }
+fn read_by(file: &[u8], third: Row) -> Result<Network, Fault>
+    ensures { as_read result ≡ read_by (row_of third) file.now }
 {
-    let p = read_all(file, third);
-    let network = p.network;
-    if p.number == 0 {
-        return Reading {
-            number: 0,
-            place: 0,
-            network,
-        };
-    }
-    Reading {
-        number: p.number,
-        place: p.place,
-        network,
-    }
+    let mut reader = Reader { file, place: 0 };
+    reader.all(third)
 }
 
-// Reads a file: the number and the place of its fault, beside a network of all zeros; or 0, 0 and its network.
-pub fn read(file: &[u8]) -> Reading
-    ensures { result ≡ read_file file.now }
+// Reads a file into its network.
+pub fn read(file: &[u8]) -> Result<ValidNetwork, Fault>
+    ensures { as_reading result ≡ read_file file.now }
 {
     let capacity_row = Row::AtMost {
         most: MAX_CAPACITY,
-        number: LINK_TOO_LARGE,
+        refusal: Refusal::LinkTooLarge,
     };
-    read_by(file, capacity_row)
+    let network = read_by(file, capacity_row)?;
+    Ok(ValidNetwork { network })
 }

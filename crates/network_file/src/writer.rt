@@ -1,79 +1,124 @@
 // A network written into a file: n, m, then a, b, c for each link in order.
-ghost use Rattle.std.specs.Prelude.{length, true, ◌≡◌, ◌+◌, ◌≤◌};
-ghost use Rattle.std.proofs.lemmas.List.Edits.{sets};
-ghost use Rattle.network.specs.Network.{network_fits};
+ghost use Rattle.std.specs.Prelude.{[], length, ◌≡◌, ◌∷◌, ◌≤◌, ◌<◌};
+ghost use Rattle.network_file.specs.Number.{group_bytes, number_bytes};
+ghost use Rattle.network_file.specs.Results.{as_written};
 ghost use Rattle.network_file.specs.Writing.{bytes_of_link, link_bytes, file_of, file_write_of, file_written_to};
+ghost use Rattle.network_file.specs.code.Writers.{HasRoom, Wrote};
 
-use crate::FileWritten;
-use crate::numbers::{number_length, write_number};
-use network::{BUFFER_TOO_SHORT, Network};
+use crate::numbers::number_length;
+use network::{Link, MAX_GROUPS, Refusal, ValidNetwork};
 
 // How many bytes a link has.
-fn link_length(a: u8, b: u8, capacity: u32) -> usize
-    ensures { result ≡ length (bytes_of_link a b capacity) }
+#[tactic(auto, using(crate::proofs::laws::LengthLaws::number_most))]
+fn link_length(link: Link) -> usize
+    ensures { result ≡ length (bytes_of_link link.a link.b link.capacity) }
 {
-    number_length(a as u32) + number_length(b as u32) + number_length(capacity)
+    number_length(link.a as u32) + number_length(link.b as u32) + number_length(link.capacity)
 }
 
 // How many bytes all links have.
-fn links_length(net: Network) -> usize
-    requires { network_fits net ≡ true }
-    ensures { result ≡ length (link_bytes net net.links) }
+#[tactic(auto, using(crate::proofs::laws::WritingSteps::limits))]
+fn links_length(net: ValidNetwork) -> usize
+    ensures { result ≡ length (link_bytes net.network net.network.links) }
 {
-    let m = net.links;
+    let net = net.network;
+    // Kept: the library's `sum` asks for the bound of the whole sum at once; here each turn has its own.
     let mut sum: usize = 0;
-    for k in 0..m {
-        sum += link_length(net.a[k], net.b[k], net.capacity[k]);
+    for k in 0..net.links {
+        sum += link_length(net.link(k));
     }
     sum
 }
 
 // How many bytes a network's file has.
-pub fn file_length(net: Network) -> usize
-    requires { network_fits net ≡ true }
-    ensures { result ≡ length (file_of net) }
+#[tactic(auto, using(crate::proofs::laws::WritingSteps::file_limits))]
+pub fn file_length(net: ValidNetwork) -> usize
+    ensures { result ≡ length (file_of net.network) }
 {
-    number_length(net.nodes as u32) + number_length(net.links as u32) + links_length(net)
+    number_length(net.network.nodes as u32)
+        + number_length(net.network.links as u32)
+        + links_length(net)
 }
 
-// Writes a link at a place, and gives the place behind it.
-fn write_link(out: &mut [u8], place: usize, a: u8, b: u8, capacity: u32) -> usize
-    requires { place + length (bytes_of_link a b capacity) ≤ length out.old }
-    ensures value { result ≡ place + length (bytes_of_link a b capacity) }
-    ensures out_after { out.new ≡ sets out.old place (bytes_of_link a b capacity) }
-{
-    let second = write_number(&mut *out, place, a as u32);
-    let third = write_number(&mut *out, second, b as u32);
-    write_number(&mut *out, third, capacity)
+// A buffer, and the place where writing goes on.
+// Kept: `listing` has a writer of lines like it; the two share two fields, and no method: what each puts differs.
+#[derive(Drop)]
+struct Writer<'a> {
+    out: &'a mut [u8],
+    place: usize,
 }
 
-// Writes all links from a place on.
-fn write_links(net: Network, out: &mut [u8], place: usize)
-    requires { (network_fits net ≡ true) × (place + length (link_bytes net net.links) ≤ length out.old) }
-    ensures { out.new ≡ sets out.old place (link_bytes net net.links) }
-{
-    let m = net.links;
-    let mut next = place;
-    for k in 0..m {
-        next = write_link(&mut *out, next, net.a[k], net.b[k], net.capacity[k]);
+impl Writer<'_> {
+    // Writes a byte.
+    fn put(&mut self, x: u8)
+        requires { self.old.place < length self.old.out.now }
+        ensures { Wrote self.old self.new (x ∷ []) }
+    {
+        self.out[self.place] = x;
+        self.place += 1;
+    }
+
+    // Writes v, in at most `left` groups.
+    fn put_groups(&mut self, v: u32, left: usize)
+        requires { HasRoom self.old (group_bytes left v) }
+        ensures { Wrote self.old self.new (group_bytes left v) }
+    {
+        if left == 0 {
+            return;
+        }
+        if v < 128 {
+            self.put(v as u8);
+            return;
+        }
+        self.put((128 + v % 128) as u8);
+        self.put_groups(v / 128, left - 1);
+    }
+
+    // Writes v.
+    #[tactic(auto, unfolding(crate::specs::Number::number_bytes))]
+    fn put_number(&mut self, v: u32)
+        requires { HasRoom self.old (number_bytes v) }
+        ensures { Wrote self.old self.new (number_bytes v) }
+    {
+        self.put_groups(v, MAX_GROUPS);
+    }
+
+    // Writes a link.
+    fn put_link(&mut self, link: Link)
+        requires { HasRoom self.old (bytes_of_link link.a link.b link.capacity) }
+        ensures { Wrote self.old self.new (bytes_of_link link.a link.b link.capacity) }
+    {
+        self.put_number(link.a as u32);
+        self.put_number(link.b as u32);
+        self.put_number(link.capacity);
+    }
+
+    // Writes all links.
+    #[tactic(auto, using(crate::proofs::laws::WritingSteps::limits))]
+    fn put_links(&mut self, net: ValidNetwork)
+        requires { HasRoom self.old (link_bytes net.network net.network.links) }
+        ensures { Wrote self.old self.new (link_bytes net.network net.network.links) }
+    {
+        let net = net.network;
+        for k in 0..net.links {
+            self.put_link(net.link(k));
+        }
     }
 }
 
 // Writes a network's file to the front of a buffer, and gives its length; a buffer that is too short stays as it was.
-pub fn write(net: Network, out: &mut [u8]) -> FileWritten
-    requires { network_fits net ≡ true }
-    ensures value { result ≡ file_write_of net (length out.old) }
-    ensures out_after { out.new ≡ file_written_to net out.old }
+#[tactic(auto, using(crate::proofs::laws::WritingSteps::limits))]
+pub fn write(net: ValidNetwork, out: &mut [u8]) -> Result<usize, Refusal>
+    ensures value { as_written result ≡ file_write_of net.network (length out.old) }
+    ensures out_after { out.new ≡ file_written_to net.network out.old }
 {
     let length = file_length(net);
     if out.len() < length {
-        return FileWritten {
-            number: BUFFER_TOO_SHORT,
-            length: 0,
-        };
+        return Err(Refusal::BufferTooShort);
     }
-    let second = write_number(&mut *out, 0, net.nodes as u32);
-    let third = write_number(&mut *out, second, net.links as u32);
-    write_links(net, &mut *out, third);
-    FileWritten { number: 0, length }
+    let mut writer = Writer { out, place: 0 };
+    writer.put_number(net.network.nodes as u32);
+    writer.put_number(net.network.links as u32);
+    writer.put_links(net);
+    Ok(length)
 }

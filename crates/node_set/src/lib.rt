@@ -8,17 +8,17 @@ ghost use Rattle.node_set.specs.Set.{width, empty, single, added, removed, union
 ghost use Rattle.node_set.specs.Set.{all_below, complement_in, included};
 ghost use Rattle.node_set.specs.Set.{Lowest, Counted};
 
-// how many nodes a word has room for, and the word of them all
-const WIDTH: usize = 64;
+// how many nodes a word has room for
+const WIDTH: usize = u64::BITS as usize;
 
-const FULL: u64 = 18446744073709551615;
-
+#[tactic(auto, unfolding(crate::specs::Set::empty))]
 pub fn empty() -> u64
     ensures { result ≡ empty }
 {
     0
 }
 
+#[tactic(auto, using(crate::proofs::laws::BitLaws::one_shifted), unfolding(crate::specs::Set::single))]
 pub fn single(i: usize) -> u64
     requires { i < width }
     ensures { result ≡ single i }
@@ -26,6 +26,7 @@ pub fn single(i: usize) -> u64
     1u64 << i
 }
 
+#[tactic(auto, using(base::proofs::laws::WordLaws::holds_shift))]
 pub fn contains(x: u64, i: usize) -> bool
     requires { i < width }
     ensures { result ≡ holds x i }
@@ -33,6 +34,7 @@ pub fn contains(x: u64, i: usize) -> bool
     (x >> i) % 2 == 1
 }
 
+#[tactic(auto, using(crate::proofs::laws::BitLaws::one_shifted), unfolding(crate::specs::Set::added))]
 pub fn add(x: u64, i: usize) -> u64
     requires { i < width }
     ensures { result ≡ added x i }
@@ -40,6 +42,7 @@ pub fn add(x: u64, i: usize) -> u64
     x | (1u64 << i)
 }
 
+#[tactic(auto, using(crate::proofs::laws::BitLaws::one_shifted), unfolding(crate::specs::Set::removed))]
 pub fn remove(x: u64, i: usize) -> u64
     requires { i < width }
     ensures { result ≡ removed x i }
@@ -47,18 +50,21 @@ pub fn remove(x: u64, i: usize) -> u64
     x ^ (x & (1u64 << i))
 }
 
+#[tactic(auto, unfolding(crate::specs::Set::union))]
 pub fn union(x: u64, y: u64) -> u64
     ensures { result ≡ union x y }
 {
     x | y
 }
 
+#[tactic(auto, unfolding(crate::specs::Set::intersection))]
 pub fn intersection(x: u64, y: u64) -> u64
     ensures { result ≡ intersection x y }
 {
     x & y
 }
 
+#[tactic(auto, unfolding(crate::specs::Set::difference))]
 pub fn difference(x: u64, y: u64) -> u64
     ensures { result ≡ difference x y }
 {
@@ -66,14 +72,20 @@ pub fn difference(x: u64, y: u64) -> u64
 }
 
 // the nodes below n; all of them are named apart, since a shift by the whole width gives nothing
+#[tactic(auto, using(crate::proofs::laws::BitLaws::one_shifted), unfolding(crate::specs::Set::all_below))]
 pub fn all_below(n: usize) -> u64
     requires { n ≤ width }
     ensures { result ≡ all_below n }
 {
-    if n == WIDTH { FULL } else { (1u64 << n) - 1 }
+    if n == WIDTH {
+        u64::MAX
+    } else {
+        (1u64 << n) - 1
+    }
 }
 
 // the nodes below n that are not in x, a set of nodes below n
+#[tactic(auto, unfolding(crate::specs::Set::all_below, crate::specs::Set::complement_in))]
 pub fn complement(x: u64, n: usize) -> u64
     requires { (n ≤ width) × (x < 2 ^ n) }
     ensures { result ≡ complement_in n x }
@@ -82,21 +94,23 @@ pub fn complement(x: u64, n: usize) -> u64
 }
 
 // whether every node of x is in y
+#[tactic(auto, unfolding(crate::specs::Set::included))]
 pub fn includes(y: u64, x: u64) -> bool
     ensures { result ≡ included x y }
 {
     (x & y) == x
 }
 
+#[tactic(auto, using(crate::proofs::laws::SizeLaws::counted))]
 pub fn size(x: u64) -> u32
     ensures { Counted x result }
 {
-    u64::count_ones(x)
+    x.count_ones()
 }
 
 pub fn lowest(x: u64) -> usize
     requires { 0 < x }
     ensures { Lowest x result }
 {
-    u64::trailing_zeros(x) as usize
+    x.trailing_zeros() as usize
 }

@@ -2,3 +2,4 @@
 pub mod ResortA
 pub mod Replies
 pub mod Soundness
+pub mod Results

@@ -2,6 +2,7 @@
 pub mod ShapeLaws
 pub mod SoundLaws
 pub mod WeightLaws
+pub mod Tests
 pub mod SoundFacts
 pub mod AnswersLaws
 pub mod FlowsLaws

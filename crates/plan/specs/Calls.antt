@@ -8,23 +8,39 @@ use Rattle.network.specs.Network.{with_capacity, min_cut_value, LawfulFlow, tota
 use Rattle.network.specs.declared.Network.{Network}
 use Rattle.network_file.specs.Reading.{read_file}
 use Rattle.network_file.specs.Writing.{file_of}
-use Rattle.network_file.specs.declared.Reading.{Reading}
+use Rattle.network_file.specs.Reading.{Reading}
 use Rattle.cut_tree.specs.Rule.{rule}
 use Rattle.cut_tree.specs.Rebuild.{rebuilt}
 use Rattle.cut_tree.specs.Path.{pair_rows, answer, weight_of}
-use Rattle.cut_tree.specs.declared.PairAnswer.{PairAnswer}
-use Rattle.cut_tree.specs.declared.PairAnswer.TheVariants.{Refused, Found}
+use Rattle.cut_tree.specs.Path.{PairAnswer}
+use Rattle.cut_tree.specs.Path.{Refused, Found}
 use Rattle.network.specs.Refusals.{no_such_link, capacity_too_large, stack_full, nothing_to_undo, flow_length}
 use Rattle.network.specs.Refusals.{demand_too_large, buffer_too_short, not_sound}
 use Rattle.plan.specs.Plan.{max_depth, sound, push, pop, plan_of, no_stack, no_plan}
 use Rattle.text.specs.Text.{text_width, text_of}
 use Rattle.plan.specs.declared.Stack.{Stack}
 use Rattle.plan.specs.declared.Plan.{Plan}
-use Rattle.plan.specs.declared.Opening.{Opening}
-use Rattle.plan.specs.declared.Changed.{Changed}
-use Rattle.plan.specs.declared.PreviewReply.{PreviewReply}
 use Rattle.plan.specs.declared.HeadroomReply.{HeadroomReply}
-use Rattle.plan.specs.declared.Written.{Written}
+
+-- ---- replies: a refusal number, or 0, and what comes with it
+pub record Opening : Type 0 where
+  pub number : ℕ
+  pub place : ℕ
+  pub plan : Plan
+
+pub record Changed : Type 0 where
+  pub number : ℕ
+  pub count : ℕ
+  pub plan : Plan
+
+-- the number is the answer's
+pub record PreviewReply : Type 0 where
+  pub answer : PairAnswer
+  pub count : ℕ
+
+pub record Written : Type 0 where
+  pub number : ℕ
+  pub length : ℕ
 
 -- the highest demand (the paper: need) of a headroom
 abbrev pub max_demand : ℕ

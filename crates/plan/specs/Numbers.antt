@@ -1,11 +1,8 @@
 -- Demand 1, for the calls on a plan: each number of the table of checks is given under its condition and no other, a
 -- refusal alters nothing, and an accepted reply has the number 0. Each call has its table in words, and one law
 -- (`numbered`) shows them all. Numbers 1 to 9 are given by opening exactly for a fault of the file, with its place.
-use Prim.Native.Nat.{ℕ, ◌<◌}
+use Rattle.std.specs.Prelude.{ℕ, ◌<◌, ◌≤◌, ◌≡◌, ◌≢◌, true, false, List, length}
 use Rattle.plan.specs.declared.Plan.{Plan}
-use Prim.Native.Nat.{◌≤◌}
-use Rattle.std.specs.Prelude.{◌≡◌, ◌≢◌, true, false, List}
-use Rattle.std.proofs.Math.ListN.{length}
 use Rattle.base.specs.Checks.{Row}
 use Rattle.base.specs.Conditions.{Meaning, end, means}
 use Rattle.base.proofs.laws.ChecksLaws.{holding, failing, above, not_above}

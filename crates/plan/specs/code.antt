@@ -1,2 +1,3 @@
 -- What the contracts and invariants of single functions cite.
 pub mod SoundParts
+pub mod StackParts

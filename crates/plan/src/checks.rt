@@ -1,50 +1,35 @@
-// Refusals of change, undo and preview, in the order of the table of checks; 0 where there is none.
+// Whether a change or a preview is refused, in the order of the table of checks.
 ghost use Rattle.std.specs.Prelude.{◌≡◌};
-ghost use Rattle.plan.specs.Calls.{change_number, undo_number, preview_number};
+ghost use Rattle.network.specs.Refusals.{outcome_number};
+ghost use Rattle.plan.specs.Calls.{change_number, preview_number};
 
-use crate::sound::is_sound;
 use crate::{MAX_DEPTH, Plan};
-use network::{
-    CAPACITY_TOO_LARGE, MAX_CAPACITY, NO_SUCH_LINK, NOT_SOUND, NOTHING_TO_UNDO, STACK_FULL,
-};
+use network::{MAX_CAPACITY, Refusal};
 
-pub fn change_number(p: Plan, k: usize, c: u32) -> u32
-    ensures { result ≡ change_number p k c }
+#[tactic(auto, unfolding(crate::specs::Calls::change_number))]
+pub fn check_change(p: Plan, k: usize, c: u32) -> Result<(), Refusal>
+    ensures { outcome_number result ≡ change_number p k c }
 {
-    if !is_sound(p) {
-        return NOT_SOUND;
+    if !p.is_sound() {
+        return Err(Refusal::NotSound);
     }
     if k >= p.network.links {
-        return NO_SUCH_LINK;
+        return Err(Refusal::NoSuchLink);
     }
     if c > MAX_CAPACITY {
-        return CAPACITY_TOO_LARGE;
+        return Err(Refusal::CapacityTooLarge);
     }
     if p.stack.depth == MAX_DEPTH {
-        return STACK_FULL;
+        return Err(Refusal::StackFull);
     }
-    0
-}
-
-pub fn undo_number(p: Plan) -> u32
-    ensures { result ≡ undo_number p }
-{
-    if !is_sound(p) {
-        return NOT_SOUND;
-    }
-    if p.stack.depth == 0 {
-        return NOTHING_TO_UNDO;
-    }
-    0
+    Ok(())
 }
 
 // A change's, and then a pair's.
-pub fn preview_number(p: Plan, k: usize, c: u32, s: usize, t: usize) -> u32
-    ensures { result ≡ preview_number p k c s t }
+#[tactic(auto, using(crate::proofs::laws::PreviewLaws::checking))]
+pub fn check_preview(p: Plan, k: usize, c: u32, s: usize, t: usize) -> Result<(), Refusal>
+    ensures { outcome_number result ≡ preview_number p k c s t }
 {
-    let number = change_number(p, k, c);
-    if number != 0 {
-        return number;
-    }
-    cut_tree::query_number(p.network.nodes, s, t)
+    check_change(p, k, c)?;
+    cut_tree::check_pair(p.network.nodes, s, t)
 }

@@ -1,16 +1,17 @@
 // A plan opened from a network's file, and the file written back.
-ghost use Rattle.std.specs.Prelude.{length, true, ◌≡◌};
-ghost use Rattle.network.specs.Network.{network_fits};
+ghost use Rattle.std.specs.Prelude.{length, ◌≡◌, ◌≤◌};
+ghost use Rattle.network.specs.Limits.{max_nodes};
 ghost use Rattle.plan.specs.Calls.{fresh, open_of, write_of, written_to};
-ghost use Rattle.plan.specs.Plan.{no_plan, plan_with};
+ghost use Rattle.plan.specs.Plan.{no_plan, plan_of};
+ghost use Rattle.plan.specs.Results.{as_opening, as_written};
 
-use crate::sound::is_sound;
-use crate::{Opening, Plan, Stack, Written, entries};
-use cut_tree::{Edge, Steps, Tree};
-use network::{MAX_LINKS, MAX_NODES, NOT_SOUND, Network};
+use crate::{Plan, Stack};
+use cut_tree::{Built, Edge, Steps, Tree};
+use network::{MAX_LINKS, MAX_NODES, Network, Refusal, ValidNetwork};
+use network_file::Fault;
 
-// All zeros: what stands beside a refused file.
-fn no_plan() -> Plan
+// All zeros: what C finds beside a refused file.
+pub fn no_plan() -> Plan
     ensures { result ≡ no_plan }
 {
     Plan {
@@ -30,71 +31,52 @@ fn no_plan() -> Plan
             side: [0; MAX_NODES],
             value: [0; MAX_NODES],
         },
-        stack: entries::empty(),
+        stack: Stack::new(),
         lightest: Edge { node: 0, weight: 0 },
     }
 }
 
-// A plan from its parts.
-pub fn plan_of(network: Network, tree: Tree, steps: Steps, stack: Stack, lightest: Edge) -> Plan
-    ensures { result ≡ plan_with network tree steps stack lightest }
+// A plan of a network and what was built of it, with its tree's lightest edge.
+pub fn plan_of(network: Network, built: Built, stack: Stack) -> Plan
+    requires { network.nodes ≤ max_nodes }
+    ensures { result ≡ plan_of network built.tree built.steps stack }
 {
+    let tree = built.tree;
     Plan {
         network,
         tree,
-        steps,
+        steps: built.steps,
         stack,
-        lightest,
+        lightest: cut_tree::lightest_edge(&tree.weight, network.nodes),
     }
 }
 
 // The plan of a network, with an empty stack.
-fn fresh(net: Network) -> Plan
-    requires { network_fits net ≡ true }
-    ensures { result ≡ fresh net }
+#[tactic(auto, using(crate::proofs::laws::FilesLaws::limits))]
+fn fresh(net: ValidNetwork) -> Plan
+    ensures { result ≡ fresh net.network }
 {
-    let built = cut_tree::build(net);
-    let tree = built.tree;
-    let steps = built.steps;
-    let lightest = cut_tree::lightest_edge(&tree.weight, net.nodes);
-    plan_of(net, tree, steps, entries::empty(), lightest)
+    plan_of(net.network, cut_tree::build(net), Stack::new())
 }
 
-// Reads a file and builds its plan; or gives the number and the place of its fault.
-pub fn open(file: &[u8]) -> Opening
-    ensures { result ≡ open_of file.now }
+// Reads a file and builds its plan.
+#[tactic(auto, using(crate::proofs::laws::FilesLaws::opening))]
+pub fn open(file: &[u8]) -> Result<Plan, Fault>
+    ensures { as_opening result ≡ open_of file.now }
 {
-    let reading = network_file::read(file);
-    if reading.number != 0 {
-        let plan = no_plan();
-        return Opening {
-            number: reading.number,
-            place: reading.place,
-            plan,
-        };
-    }
-    let plan = fresh(reading.network);
-    Opening {
-        number: 0,
-        place: 0,
-        plan,
-    }
+    let net = network_file::read(file)?;
+    Ok(fresh(net))
 }
 
 // Writes the plan's file to the front of a buffer and gives its length.
-pub fn write(p: Plan, out: &mut [u8]) -> Written
-    ensures value { result ≡ write_of p (length out.old) }
+#[tactic(auto, using(crate::proofs::laws::FilesLaws::writing))]
+pub fn write(p: Plan, out: &mut [u8]) -> Result<usize, Refusal>
+    ensures value { as_written result ≡ write_of p (length out.old) }
     ensures out_after { out.new ≡ written_to p out.old }
 {
-    if !is_sound(p) {
-        return Written {
-            number: NOT_SOUND,
-            length: 0,
-        };
+    if !p.is_sound() {
+        return Err(Refusal::NotSound);
     }
-    let w = network_file::write(p.network, &mut *out);
-    Written {
-        number: w.number,
-        length: w.length,
-    }
+    let net = ValidNetwork { network: p.network };
+    network_file::write(net, &mut *out)
 }

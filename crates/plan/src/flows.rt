@@ -1,31 +1,23 @@
 // A flow shown link by link (docs/SCOPE.md, 6).
+ghost use Rattle.network.specs.Refusals.{outcome_number};
 ghost use Rattle.plan.specs.Calls.{Flowed};
 
 use crate::Plan;
-use crate::sound::is_sound;
-use network::{FLOW_LENGTH, NO_SUCH_NODE, NOT_SOUND, SAME_NODE};
+use network::{Refusal, ValidNetwork};
 
-// Fills a buffer of one number for each link with a lawful flow from s to t of the largest total, and gives 0; or a
-// refusal number.
-pub fn flow(p: Plan, s: usize, t: usize, out: &mut [i32]) -> u32
-    ensures { Flowed p s t out.old result out.new }
+// Fills a buffer of one number for each link with a lawful flow from s to t of the largest total.
+#[tactic(auto, using(crate::proofs::laws::FlowsLaws::flowing))]
+pub fn flow(p: Plan, s: usize, t: usize, out: &mut [i32]) -> Result<(), Refusal>
+    ensures { Flowed p s t out.old (outcome_number result) out.new }
 {
-    let n = p.network.nodes;
-    if !is_sound(p) {
-        return NOT_SOUND;
+    if !p.is_sound() {
+        return Err(Refusal::NotSound);
     }
-    if s >= n {
-        return NO_SUCH_NODE;
-    }
-    if t >= n {
-        return NO_SUCH_NODE;
-    }
-    if s == t {
-        return SAME_NODE;
-    }
+    cut_tree::check_pair(p.network.nodes, s, t)?;
     if out.len() != p.network.links {
-        return FLOW_LENGTH;
+        return Err(Refusal::FlowLength);
     }
-    max_flow::lawful_flow(p.network, s, t, &mut *out);
-    0
+    let net = ValidNetwork { network: p.network };
+    max_flow::lawful_flow(net, s, t, &mut *out);
+    Ok(())
 }

@@ -4,19 +4,20 @@
 
 mod answers; // pairs and headrooms
 mod changes; // change and undo
-mod checks; // refusals of change, undo and preview
+mod checks; // refusals of a change and of a preview
 mod entries; // the stack's entries, pushed and popped
 mod files; // opening and writing
 mod flows; // the flow call
+mod node_count; // how many nodes a network within the limits has
 mod previews; // a pair as a change would leave it
 mod sound; // number 19: the shape of a plan
 
 pub use crate::answers::{MAX_DEMAND, headroom, pair};
 pub use crate::changes::{change, undo};
-pub use crate::files::{open, write};
+pub use crate::files::{no_plan, open, write};
 pub use crate::flows::flow;
 pub use crate::previews::preview;
-use cut_tree::{Edge, PairAnswer, Steps, Tree};
+use cut_tree::{Edge, PairFound, Steps, Tree};
 use network::Network;
 use text::TEXT_WIDTH;
 
@@ -25,8 +26,9 @@ pub const MAX_DEPTH: usize = 64;
 
 // Changes that can be undone: entry i is a link and the capacity that it had before; the top is entry depth - 1. Unused
 // places are 0.
+// Kept: the C interface gives the entries as arrays of a fixed length, and how many there are.
 #[repr(C)]
-#[derive(Clone, Copy)]
+#[derive(Clone, Copy, Debug, PartialEq, Eq)]
 pub struct Stack {
     pub depth: usize,
     pub link: [u16; MAX_DEPTH],
@@ -36,7 +38,7 @@ pub struct Stack {
 // A network with its cut tree, the steps that made the tree, the changes that can be undone, and the tree's lightest
 // edge.
 #[repr(C)]
-#[derive(Clone, Copy)]
+#[derive(Clone, Copy, Debug, PartialEq, Eq)]
 pub struct Plan {
     pub network: Network,
     pub tree: Tree,
@@ -45,39 +47,33 @@ pub struct Plan {
     pub lightest: Edge,
 }
 
-// Replies. A number is a refusal's, or 0.
-
-#[derive(Clone, Copy)]
-pub struct Opening {
-    pub number: u32,
-    pub place: usize,
+// What a change or an undo leaves: the plan, and how many steps of its tree were not kept.
+#[derive(Clone, Copy, Debug, PartialEq, Eq)]
+pub struct Altered {
     pub plan: Plan,
-}
-
-#[derive(Clone, Copy)]
-pub struct Changed {
-    pub number: u32,
-    pub count: u32,
-    pub plan: Plan,
-}
-
-// The number is the answer's.
-#[derive(Clone, Copy)]
-pub struct PreviewReply {
-    pub answer: PairAnswer,
     pub count: u32,
 }
 
-#[repr(C)]
-#[derive(Clone, Copy)]
-pub struct HeadroomReply {
-    pub number: u32,
+// A pair as a change would leave it, and how many steps the change would not keep.
+#[derive(Clone, Copy, Debug, PartialEq, Eq)]
+pub struct PreviewFound {
+    pub pair: PairFound,
+    pub count: u32,
+}
+
+// A headroom in tenths, and its text.
+#[derive(Clone, Copy, Debug, PartialEq, Eq)]
+pub struct HeadroomFound {
     pub value: i32,
     pub text: [u8; TEXT_WIDTH],
 }
 
-#[derive(Clone, Copy)]
-pub struct Written {
+// The same as C gets it: a refusal's number, or 0, beside it; refused, 0 and spaces.
+// Kept: the C interface has no `Result`.
+#[repr(C)]
+#[derive(Clone, Copy, Debug, PartialEq, Eq)]
+pub struct HeadroomReply {
     pub number: u32,
-    pub length: usize,
+    pub value: i32,
+    pub text: [u8; TEXT_WIDTH],
 }

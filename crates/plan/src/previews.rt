@@ -2,28 +2,23 @@
 // of it, and nothing is stacked or given back.
 ghost use Rattle.std.specs.Prelude.{◌≡◌};
 ghost use Rattle.plan.specs.Calls.{preview_of};
+ghost use Rattle.plan.specs.Results.{as_preview};
 
-use crate::checks::preview_number;
-use crate::{Plan, PreviewReply};
-use cut_tree::PairAnswer;
+use crate::checks::check_preview;
+use crate::{Plan, PreviewFound};
+use network::{Refusal, ValidNetwork};
 
 // All refusals come before any work. A change leaves a sound plan sound, so the copy is not tested again.
-pub fn preview(p: Plan, k: usize, c: u32, s: usize, t: usize) -> PreviewReply
-    ensures { result ≡ preview_of p k c s t }
+#[tactic(auto, using(crate::proofs::laws::PreviewLaws::previewing))]
+pub fn preview(p: Plan, k: usize, c: u32, s: usize, t: usize) -> Result<PreviewFound, Refusal>
+    ensures { as_preview result ≡ preview_of p k c s t }
 {
-    let number = preview_number(p, k, c, s, t);
-    if number != 0 {
-        return PreviewReply {
-            answer: PairAnswer::Refused(number),
-            count: 0,
-        };
-    }
-    let net = p.network;
-    let recorded = p.steps;
-    let built = cut_tree::rebuild(net, recorded, k, c);
-    let answer = cut_tree::query(built.tree, net.nodes, s, t);
-    PreviewReply {
-        answer,
+    check_preview(p, k, c, s, t)?;
+    let net = ValidNetwork { network: p.network };
+    let built = cut_tree::rebuild(net, p.steps, k, c);
+    let pair = cut_tree::query(built.tree, p.network.nodes, s, t)?;
+    Ok(PreviewFound {
+        pair,
         count: built.count,
-    }
+    })
 }

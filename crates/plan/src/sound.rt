@@ -1,249 +1,166 @@
 // Whether a plan, whatever it holds, is sound (docs/SCOPE.md, 7; number 19). Every call on a
 // plan asks it first, so the tests go over the arrays once each.
 ghost use Rattle.std.specs.Prelude.{ltb, true, ◌≡◌, ◌<◌, ◌≤◌};
+ghost use Rattle.std.specs.List.{list_all};
 ghost use Rattle.base.specs.Basics.{all, at};
-ghost use Rattle.network.specs.Limits.{max_nodes};
-ghost use Rattle.cut_tree.specs.LightestEdge.{no_edge, equal_edges};
 ghost use Rattle.plan.specs.Plan.{max_depth, step_fits, steps_fit, entry_fits, stack_fits, sound};
 ghost use Rattle.plan.specs.code.SoundParts.{parents_within, is_edge, weight_within, weights_fit, rooted};
 ghost use Rattle.plan.specs.code.SoundParts.{tree_with_edge, root_step_within, step_within, entry_within};
 
+use crate::node_count::NodeCount;
 use crate::{MAX_DEPTH, Plan, Stack};
 use cut_tree::{Edge, MAX_CLIMB, Steps, Tree};
 use network::{MAX_CAPACITY, MAX_NODES, MAX_VALUE};
 
-fn is_node(i: u8, n: usize) -> bool
-    ensures { result ≡ ltb i n }
+fn are_nodes(xs: &[u8], n: usize) -> bool
+    ensures { result ≡ list_all (λ x. ltb x n) xs.now }
 {
-    (i as usize) < n
-}
-
-fn parents_within(parent: &[u8; MAX_NODES], n: usize) -> bool
-    requires { n ≤ max_nodes }
-    ensures { result ≡ parents_within n parent.now }
-{
-    for i in 0..n {
-        if !is_node(parent[i], n) {
-            return false;
-        }
-    }
-    true
-}
-
-// What a single node has for its lightest edge.
-fn no_edge(edge: Edge) -> bool
-    ensures { result ≡ equal_edges edge no_edge }
-{
-    if edge.node != 0 {
-        return false;
-    }
-    edge.weight == 0
-}
-
-// Whether an edge is that of one of n nodes, with its weight; of one node it is none.
-fn is_edge(weight: &[u32; MAX_NODES], n: usize, edge: Edge) -> bool
-    requires { n ≤ max_nodes }
-    ensures { result ≡ is_edge n weight.now edge }
-{
-    let v = edge.node as usize;
-    if n <= 1 {
-        return no_edge(edge);
-    }
-    if v == 0 {
-        return false;
-    }
-    if v >= n {
-        return false;
-    }
-    weight[v] == edge.weight
+    xs.iter().all(|&x| usize::from(x) < n)
 }
 
 // Node i's weight: within the limit, and its edge is not lighter than the lightest, nor as light with a lower number.
+#[tactic(auto, using(crate::proofs::laws::Tests::rules), unfolding(crate::specs::code::SoundParts::weight_within))]
 fn weight_within(lightest: Edge, i: usize, weight: u32) -> bool
     ensures { result ≡ weight_within lightest i weight }
 {
-    if weight > MAX_VALUE {
-        return false;
-    }
-    if weight < lightest.weight {
-        return false;
-    }
-    if weight > lightest.weight {
-        return true;
-    }
-    i >= lightest.node as usize
+    weight <= MAX_VALUE
+        && weight >= lightest.weight
+        && (weight > lightest.weight || i >= lightest.node as usize)
 }
 
-// The weights, and that the edge is the lightest: one pass over the nodes from 1 up.
-fn weights_fit(weight: &[u32; MAX_NODES], n: usize, lightest: Edge) -> bool
-    requires { (0 < n) × (n ≤ max_nodes) × (at weight.now 0 ≡ 0) }
-    ensures { result ≡ weights_fit n weight.now lightest }
-{
-    if !is_edge(weight, n, lightest) {
-        return false;
-    }
-    for i in 1..n {
-        if !weight_within(lightest, i, weight[i]) {
-            return false;
-        }
-    }
-    true
-}
-
-fn rooted(parent: &[u8; MAX_NODES], n: usize) -> bool
-    requires { (n ≤ max_nodes) × (parents_within n parent.now ≡ true) }
-    ensures { result ≡ rooted n parent.now }
-{
-    for i in 0..n {
-        if !cut_tree::reaches_root(parent, MAX_CLIMB, i) {
-            return false;
-        }
-    }
-    true
-}
-
-// The tree, and its lightest edge.
-fn tree_fits(tree: Tree, n: usize, lightest: Edge) -> bool
-    requires { (0 < n) × (n ≤ max_nodes) }
-    ensures { result ≡ tree_with_edge n tree lightest }
-{
-    if tree.parent[0] != 0 {
-        return false;
-    }
-    if tree.weight[0] != 0 {
-        return false;
-    }
-    if !parents_within(&tree.parent, n) {
-        return false;
-    }
-    if !weights_fit(&tree.weight, n, lightest) {
-        return false;
-    }
-    if !rooted(&tree.parent, n) {
-        return false;
-    }
-    if !network::blank_from_u8(&tree.parent, n) {
-        return false;
-    }
-    network::blank_from_u32(&tree.weight, n)
-}
-
+#[tactic(auto, using(crate::proofs::laws::Tests::rules))]
 fn root_step_within(pivot: u8, side: u64, value: u32) -> bool
     ensures { result ≡ root_step_within pivot side value }
 {
-    if pivot != 0 {
-        return false;
-    }
-    if side != 0 {
-        return false;
-    }
-    value == 0
+    pivot == 0 && side == 0 && value == 0
 }
 
-fn step_within(n: usize, s: usize, pivot: u8, side: u64, value: u32) -> bool
-    requires { (n ≤ max_nodes) × (s < n) }
-    ensures { result ≡ step_within n s pivot side value }
-{
-    let t = pivot as usize;
-    if t >= n {
-        return false;
-    }
-    if side > node_set::all_below(n) {
-        return false;
-    }
-    if value > MAX_VALUE {
-        return false;
-    }
-    if !node_set::contains(side, s) {
-        return false;
-    }
-    !node_set::contains(side, t)
-}
-
-fn each_step_fits(steps: Steps, n: usize) -> bool
-    requires { (0 < n) × (n ≤ max_nodes) }
-    ensures { result ≡ all n (step_fits n steps) }
-{
-    if !root_step_within(steps.pivot[0], steps.side[0], steps.value[0]) {
-        return false;
-    }
-    for s in 1..n {
-        if !step_within(n, s, steps.pivot[s], steps.side[s], steps.value[s]) {
-            return false;
-        }
-    }
-    true
-}
-
-fn steps_fit(steps: Steps, n: usize) -> bool
-    requires { (0 < n) × (n ≤ max_nodes) }
-    ensures { result ≡ steps_fit n steps }
-{
-    if !each_step_fits(steps, n) {
-        return false;
-    }
-    if !network::blank_from_u8(&steps.pivot, n) {
-        return false;
-    }
-    if !network::blank_from_u64(&steps.side, n) {
-        return false;
-    }
-    network::blank_from_u32(&steps.value, n)
-}
-
+#[tactic(auto, using(crate::proofs::laws::Tests::rules))]
 fn entry_within(m: usize, link: u16, capacity: u32) -> bool
     ensures { result ≡ entry_within m link capacity }
 {
-    if link as usize >= m {
-        return false;
-    }
-    capacity <= MAX_CAPACITY
+    usize::from(link) < m && capacity <= MAX_CAPACITY
 }
 
-fn each_entry_fits(stack: Stack, m: usize) -> bool
-    requires { stack.depth ≤ max_depth }
-    ensures { result ≡ all stack.depth (entry_fits m stack) }
-{
-    let depth = stack.depth;
-    for i in 0..depth {
-        if !entry_within(m, stack.link[i], stack.capacity[i]) {
+impl NodeCount {
+    fn parents_within(self, parent: &[u8; MAX_NODES]) -> bool
+        ensures { result ≡ parents_within self.count parent.now }
+    {
+        are_nodes(&parent[..self.count], self.count)
+    }
+
+    // Whether an edge is that of one of the nodes, with its weight; of one node it is none.
+    #[tactic(auto, using(crate::proofs::laws::Tests::rules), unfolding(crate::specs::code::SoundParts::is_edge))]
+    fn is_edge(self, weight: &[u32; MAX_NODES], edge: Edge) -> bool
+        ensures { result ≡ is_edge self.count weight.now edge }
+    {
+        if self.count <= 1 {
+            return edge == Edge { node: 0, weight: 0 };
+        }
+        let v = edge.node as usize;
+        v != 0 && v < self.count && weight[v] == edge.weight
+    }
+
+    // The weights, and that the edge is the lightest: one pass over the nodes from 1 up.
+    fn weights_fit(self, weight: &[u32; MAX_NODES], lightest: Edge) -> bool
+        requires { at weight.now 0 ≡ 0 }
+        ensures { result ≡ weights_fit self.count weight.now lightest }
+    {
+        self.is_edge(weight, lightest)
+            && (1..self.count).all(|i| weight_within(lightest, i, weight[i]))
+    }
+
+    fn rooted(self, parent: &[u8; MAX_NODES]) -> bool
+        requires { parents_within self.count parent.now ≡ true }
+        ensures { result ≡ rooted self.count parent.now }
+    {
+        (0..self.count).all(|i| cut_tree::reaches_root(parent, MAX_CLIMB, i))
+    }
+
+    // The tree, and its lightest edge.
+    #[tactic(auto, using(crate::proofs::laws::Tests::rules), unfolding(crate::specs::code::SoundParts::tree_with_edge))]
+    fn tree_fits(self, tree: Tree, lightest: Edge) -> bool
+        ensures { result ≡ tree_with_edge self.count tree lightest }
+    {
+        tree.parent[0] == 0
+            && tree.weight[0] == 0
+            && self.parents_within(&tree.parent)
+            && self.weights_fit(&tree.weight, lightest)
+            && self.rooted(&tree.parent)
+            && network::blank_from(&tree.parent, self.count)
+            && network::blank_from(&tree.weight, self.count)
+    }
+
+    #[tactic(auto, using(crate::proofs::laws::Tests::rules))]
+    fn step_within(self, s: usize, pivot: u8, side: u64, value: u32) -> bool
+        requires { s < self.count }
+        ensures { result ≡ step_within self.count s pivot side value }
+    {
+        let t = usize::from(pivot);
+        t < self.count
+            && side <= node_set::all_below(self.count)
+            && value <= MAX_VALUE
+            && node_set::contains(side, s)
+            && !node_set::contains(side, t)
+    }
+
+    fn each_step_fits(self, steps: Steps) -> bool
+        ensures { result ≡ all self.count (step_fits self.count steps) }
+    {
+        root_step_within(steps.pivot[0], steps.side[0], steps.value[0])
+            && (1..self.count).all(|s| self.step_within(
+                s,
+                steps.pivot[s],
+                steps.side[s],
+                steps.value[s],
+            ))
+    }
+
+    #[tactic(auto, using(crate::proofs::laws::Tests::rules), unfolding(crate::specs::Plan::steps_fit))]
+    fn steps_fit(self, steps: Steps) -> bool
+        ensures { result ≡ steps_fit self.count steps }
+    {
+        self.each_step_fits(steps)
+            && network::blank_from(&steps.pivot, self.count)
+            && network::blank_from(&steps.side, self.count)
+            && network::blank_from(&steps.value, self.count)
+    }
+}
+
+impl Stack {
+    fn each_entry_fits(self, m: usize) -> bool
+        requires { self.depth ≤ max_depth }
+        ensures { result ≡ all self.depth (entry_fits m self) }
+    {
+        (0..self.depth).all(|i| entry_within(m, self.link[i], self.capacity[i]))
+    }
+
+    // In a network of m links.
+    #[tactic(auto, using(crate::proofs::laws::Tests::rules), unfolding(crate::specs::Plan::stack_fits))]
+    fn fits_links(self, m: usize) -> bool
+        ensures { result ≡ stack_fits m self }
+    {
+        self.depth <= MAX_DEPTH
+            && self.each_entry_fits(m)
+            && network::blank_from(&self.link, self.depth)
+            && network::blank_from(&self.capacity, self.depth)
+    }
+}
+
+impl Plan {
+    // The network first: its limits keep the other tests within the arrays.
+    #[tactic(auto, using(crate::proofs::laws::Tests::rules), unfolding(crate::specs::Plan::sound))]
+    pub(crate) fn is_sound(self) -> bool
+        ensures { result ≡ sound self }
+    {
+        if !network::fits(self.network) {
             return false;
         }
+        let nodes = NodeCount {
+            count: self.network.nodes,
+        };
+        nodes.tree_fits(self.tree, self.lightest)
+            && nodes.steps_fit(self.steps)
+            && self.stack.fits_links(self.network.links)
     }
-    true
-}
-
-fn stack_fits(stack: Stack, m: usize) -> bool
-    ensures { result ≡ stack_fits m stack }
-{
-    let depth = stack.depth;
-    if depth > MAX_DEPTH {
-        return false;
-    }
-    if !each_entry_fits(stack, m) {
-        return false;
-    }
-    if !network::blank_from_u16(&stack.link, depth) {
-        return false;
-    }
-    network::blank_from_u32(&stack.capacity, depth)
-}
-
-// The network first: its limits keep the other tests within the arrays.
-pub fn is_sound(p: Plan) -> bool
-    ensures { result ≡ sound p }
-{
-    let net = p.network;
-    let n = net.nodes;
-    let m = net.links;
-    if !network::fits(net) {
-        return false;
-    }
-    if !tree_fits(p.tree, n, p.lightest) {
-        return false;
-    }
-    if !steps_fit(p.steps, n) {
-        return false;
-    }
-    stack_fits(p.stack, m)
 }

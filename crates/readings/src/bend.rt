@@ -1,92 +1,96 @@
 // The command `bend FIELD PLACE VALUE`, which sets one number of the plan by hand. Of the field only the first letter
-// counts: nodes, links, end (b of a link), capacity; parent, weight; hinge (a step's pivot), side, value; depth, undone
-// (link of an entry), before; tip (node of the lightest edge), minimum (its weight).
-use crate::line::Given;
-use crate::print::put;
-use cut_tree::{Edge, Steps, Tree};
-use network::{MAX_LINKS, MAX_NODES, Network};
-use plan::{MAX_DEPTH, Plan, Stack};
+// counts.
+use network::MAX_LINKS;
+use plan::{MAX_DEPTH, Plan};
 use std::io;
 
-fn bend_network(net: Network, field: u8, i: usize, value: u32) -> Network {
-    let mut bent = net;
-    if i >= MAX_LINKS {
-        return net;
-    }
-    match field {
-        b'n' => bent.nodes = value as usize,
-        b'l' => bent.links = value as usize,
-        b'e' => bent.b[i] = (value % 256) as u8,
-        b'c' => bent.capacity[i] = value,
-        _ => {}
-    }
-    bent
+// The numbers of a plan that can be set.
+#[derive(Clone, Copy, Debug, PartialEq, Eq)]
+pub enum Field {
+    Nodes,
+    Links,
+    // b of a link
+    End,
+    Capacity,
+    Parent,
+    Weight,
+    // a step's pivot
+    Hinge,
+    Side,
+    Value,
+    Depth,
+    // the link of an entry
+    Undone,
+    // the capacity of an entry
+    Before,
+    // the node of the lightest edge
+    Tip,
+    // its weight
+    Minimum,
 }
 
-fn bend_tree(tree: Tree, field: u8, i: usize, value: u32) -> Tree {
-    let mut bent = tree;
-    if i >= MAX_NODES {
-        return tree;
+impl Field {
+    // Kept: an arm for each letter is the shortest way to say which field it names.
+    pub fn of_letter(letter: u8) -> Option<Field> {
+        match letter {
+            b'n' => Some(Field::Nodes),
+            b'l' => Some(Field::Links),
+            b'e' => Some(Field::End),
+            b'c' => Some(Field::Capacity),
+            b'p' => Some(Field::Parent),
+            b'w' => Some(Field::Weight),
+            b'h' => Some(Field::Hinge),
+            b's' => Some(Field::Side),
+            b'v' => Some(Field::Value),
+            b'd' => Some(Field::Depth),
+            b'u' => Some(Field::Undone),
+            b'b' => Some(Field::Before),
+            b't' => Some(Field::Tip),
+            b'm' => Some(Field::Minimum),
+            _ => None,
+        }
     }
-    match field {
-        b'p' => bent.parent[i] = (value % 256) as u8,
-        b'w' => bent.weight[i] = value,
-        _ => {}
+
+    // Sets the field, of several the one at a place, where there is such a place; so nodes, links and depth too, beside
+    // the arrays of links and of entries. A value too large for the field is cut off.
+    fn set(self, plan: &mut Plan, place: usize, value: u32) {
+        let byte = (value & 0xff) as u8;
+        let word = (value & 0xffff) as u16;
+        match self {
+            Field::Nodes if place < MAX_LINKS => plan.network.nodes = value as usize,
+            Field::Links if place < MAX_LINKS => plan.network.links = value as usize,
+            Field::End => set_at(&mut plan.network.b, place, byte),
+            Field::Capacity => set_at(&mut plan.network.capacity, place, value),
+            Field::Parent => set_at(&mut plan.tree.parent, place, byte),
+            Field::Weight => set_at(&mut plan.tree.weight, place, value),
+            Field::Hinge => set_at(&mut plan.steps.pivot, place, byte),
+            Field::Side => set_at(&mut plan.steps.side, place, u64::from(value)),
+            Field::Value => set_at(&mut plan.steps.value, place, value),
+            Field::Depth if place < MAX_DEPTH => plan.stack.depth = value as usize,
+            Field::Undone => set_at(&mut plan.stack.link, place, word),
+            Field::Before => set_at(&mut plan.stack.capacity, place, value),
+            Field::Tip => plan.lightest.node = value,
+            Field::Minimum => plan.lightest.weight = value,
+            Field::Nodes | Field::Links | Field::Depth => {}
+        }
     }
-    bent
 }
 
-fn bend_steps(steps: Steps, field: u8, i: usize, value: u32) -> Steps {
-    let mut bent = steps;
-    if i >= MAX_NODES {
-        return steps;
+fn set_at<N: Copy>(numbers: &mut [N], place: usize, value: N) {
+    if let Some(number) = numbers.get_mut(place) {
+        *number = value;
     }
-    match field {
-        b'h' => bent.pivot[i] = (value % 256) as u8,
-        b's' => bent.side[i] = value as u64,
-        b'v' => bent.value[i] = value,
-        _ => {}
-    }
-    bent
 }
 
-fn bend_stack(stack: Stack, field: u8, i: usize, value: u32) -> Stack {
-    let mut bent = stack;
-    if i >= MAX_DEPTH {
-        return stack;
+pub fn bend(
+    rt: &impl Print,
+    plan: &mut Plan,
+    field: Option<Field>,
+    place: usize,
+    value: u32,
+) -> io::Result<()> {
+    if let Some(field) = field {
+        field.set(plan, place, value);
     }
-    match field {
-        b'd' => bent.depth = value as usize,
-        b'u' => bent.link[i] = (value % 65536) as u16,
-        b'b' => bent.capacity[i] = value,
-        _ => {}
-    }
-    bent
-}
-
-fn bend_lightest(edge: Edge, field: u8, value: u32) -> Edge {
-    let mut bent = edge;
-    match field {
-        b't' => bent.node = value,
-        b'm' => bent.weight = value,
-        _ => {}
-    }
-    bent
-}
-
-pub fn bend(rt: &impl Print, plan: Plan, field: u8, given: Given) -> io::Result<Plan> {
-    let i = given.second as usize;
-    let network = bend_network(plan.network, field, i, given.third);
-    let tree = bend_tree(plan.tree, field, i, given.third);
-    let steps = bend_steps(plan.steps, field, i, given.third);
-    let stack = bend_stack(plan.stack, field, i, given.third);
-    let lightest = bend_lightest(plan.lightest, field, given.third);
-    put(rt, b" set")?;
-    Ok(Plan {
-        network,
-        tree,
-        steps,
-        stack,
-        lightest,
-    })
+    print!(rt; " set")
 }

@@ -1,60 +1,61 @@
 // Commands that change the plan.
-use crate::line::Given;
-use crate::print::{put_number, put_refusal};
-use plan::{Changed, Plan};
+use network::Refusal;
+use plan::{Altered, Plan};
 use std::io;
 
-// A reply: its refusal number, if it has one, and its count.
-fn reply(rt: &impl Print, changed: Changed) -> io::Result<Plan> {
-    if changed.number != 0 {
-        put_refusal(rt, changed.number)?;
+// The most turns of `repeat` and `drain`.
+const MOST_TURNS: u32 = 100;
+
+// What a change or an undo left: its count, or its refusal, which leaves the plan.
+fn note(rt: &impl Print, plan: &mut Plan, outcome: Result<Altered, Refusal>) -> io::Result<()> {
+    match outcome {
+        Ok(altered) => {
+            *plan = altered.plan;
+            print!(rt; " not kept {}", altered.count)
+        }
+        Err(refusal) => print!(rt; " refused {refusal} not kept 0"),
     }
-    put_number(rt, b" not kept ", changed.count as u64)?;
-    Ok(changed.plan)
+}
+
+// The same call until it is refused: after how many turns, and the refusal.
+fn until_refused<F: Fn(Plan) -> Result<Altered, Refusal>>(
+    rt: &impl Print,
+    plan: &mut Plan,
+    call: F,
+) -> io::Result<()>
+    requires { F.IsAlwaysCallable call }
+{
+    for turns in 0..MOST_TURNS {
+        match call(*plan) {
+            Ok(altered) => *plan = altered.plan,
+            refused => {
+                print!(rt; " turns {turns}")?;
+                return note(rt, plan, refused);
+            }
+        }
+    }
+    Ok(())
 }
 
 // `change LINK CAPACITY`
-pub fn change(rt: &impl Print, plan: Plan, given: Given) -> io::Result<Plan> {
-    reply(rt, plan::change(plan, given.first as usize, given.second))
+pub fn change(rt: &impl Print, plan: &mut Plan, link: usize, capacity: u32) -> io::Result<()> {
+    let outcome = plan::change(*plan, link, capacity);
+    note(rt, plan, outcome)
 }
 
 // `undo`
-pub fn undo(rt: &impl Print, plan: Plan) -> io::Result<Plan> {
-    reply(rt, plan::undo(plan))
+pub fn undo(rt: &impl Print, plan: &mut Plan) -> io::Result<()> {
+    let outcome = plan::undo(*plan);
+    note(rt, plan, outcome)
 }
 
-// After so many turns, the first refusal.
-fn ended(rt: &impl Print, turns: u64, changed: Changed) -> io::Result<Plan> {
-    put_number(rt, b" turns ", turns)?;
-    reply(rt, changed)
-}
-
-// `repeat LINK CAPACITY`: the same change until one is refused.
-pub fn repeat(rt: &impl Print, plan: Plan, given: Given) -> io::Result<Plan> {
-    let k = given.first as usize;
-    let c = given.second;
-    let mut now = plan;
-    for turns in 0..100 {
-        let changed = plan::change(now, k, c);
-        if changed.number != 0 {
-            return ended(rt, turns, changed);
-        }
-        let next = changed.plan;
-        now = next;
-    }
-    Ok(now)
+// `repeat LINK CAPACITY`: the same change until it is refused.
+pub fn repeat(rt: &impl Print, plan: &mut Plan, link: usize, capacity: u32) -> io::Result<()> {
+    until_refused(rt, plan, |now| plan::change(now, link, capacity))
 }
 
 // `drain`: undo until it is refused.
-pub fn drain(rt: &impl Print, plan: Plan) -> io::Result<Plan> {
-    let mut now = plan;
-    for turns in 0..100 {
-        let changed = plan::undo(now);
-        if changed.number != 0 {
-            return ended(rt, turns, changed);
-        }
-        let next = changed.plan;
-        now = next;
-    }
-    Ok(now)
+// Kept: `plan::undo` in place of the closure did not prove; its contract's module is not exported by its crate.
+pub fn drain(rt: &impl Print, plan: &mut Plan) -> io::Result<()> {
+    until_refused(rt, plan, |now| plan::undo(now))
 }

@@ -7,111 +7,78 @@
 mod answers; // commands that ask the plan: pair, view (a preview), headroom
 mod bend; // the command that sets one number of the plan by hand
 mod changes; // commands that change the plan: change, undo, repeat, drain
+mod commands; // the commands, and how they stand in a line
 mod files; // commands that open a file: open, longest, many
 mod flows; // the command flow
 mod gate; // the command gate, a reading of a gate's record
-mod line; // the parts of a line
-mod print; // words, numbers and bytes
+mod print; // what several commands print
 mod show; // commands that show the plan: tree, edge, steps, network
 mod writing; // the commands write, and again, which opens what is written
 
-ghost use Rattle.std.specs.Prelude.{◌≤◌, length, IfOk};
-
-use line::Given;
+use commands::Command;
 use plan::Plan;
 use std::io;
 use std::io::Read;
 
 // So many bytes of the input are read.
-const MAX_INPUT: usize = 65536;
+const MAX_INPUT: u64 = 65536;
 
-// Does what a command that leaves the plan as it is says.
-fn tell(
-    rt: &impl Print,
-    plan: Plan,
-    command: u8,
-    given: Given,
-    line: &[u8],
-    arguments: usize,
-) -> io::Result<()> {
+// Does what a command says, on the plan and to it.
+fn obey(rt: &impl Print, plan: &mut Plan, command: Command) -> io::Result<()> {
     match command {
-        b't' => show::tree(rt, plan),
-        b'e' => show::edge(rt, plan),
-        b's' => show::steps(rt, plan),
-        b'n' => show::network(rt, plan),
-        b'p' => answers::pair(rt, plan, given),
-        b'v' => answers::preview(rt, plan, given),
-        b'h' => answers::headroom(rt, plan, given),
-        b'f' => flows::flow(rt, plan, given),
-        b'g' => gate::reading(rt, plan, given, line, arguments),
-        b'w' => writing::write(rt, plan, given),
-        _ => print::put(rt, b" no command"),
+        Command::Open { file } => files::open(rt, plan, &file),
+        Command::Longest { length } => files::open_longest(rt, plan, length),
+        Command::Many { low, high, length } => files::open_many(rt, plan, low, high, length),
+        Command::Again => writing::open_again(rt, plan),
+        Command::Change { link, capacity } => changes::change(rt, plan, link, capacity),
+        Command::Undo => changes::undo(rt, plan),
+        Command::Repeat { link, capacity } => changes::repeat(rt, plan, link, capacity),
+        Command::Drain => changes::drain(rt, plan),
+        Command::Bend {
+            field,
+            place,
+            value,
+        } => bend::bend(rt, plan, field, place, value),
+        Command::Tree => show::tree(rt, plan),
+        Command::Edge => show::edge(rt, plan),
+        Command::Steps => show::steps(rt, plan),
+        Command::Network => show::network(rt, plan),
+        Command::Pair { s, t } => answers::pair(rt, plan, s, t),
+        Command::View {
+            link,
+            capacity,
+            s,
+            t,
+        } => answers::view(rt, plan, link, capacity, s, t),
+        Command::Headroom { s, t, demand } => answers::headroom(rt, plan, s, t, demand),
+        Command::Flow { s, t, length } => flows::flow(rt, plan, s, t, length),
+        Command::Gate {
+            s,
+            t,
+            demand,
+            window,
+        } => gate::reading(rt, plan, s, t, demand, window),
+        Command::Write { length } => writing::write(rt, plan, length),
     }
 }
 
-// Does what the command at a place of a line says, and gives the plan that it leaves.
-fn obey(rt: &impl Print, plan: Plan, line: &[u8], place: usize) -> io::Result<Plan> {
-    let arguments = line::behind(line, place, b' ');
-    let given = line::numbers(line, arguments);
-    let command = line::byte_at(line, place);
-    match command {
-        b'o' => files::open(rt, line, arguments),
-        b'l' => files::open_longest(rt, given),
-        b'm' => files::open_many(rt, given),
-        b'a' => writing::open_again(rt, plan),
-        b'c' => changes::change(rt, plan, given),
-        b'u' => changes::undo(rt, plan),
-        b'r' => changes::repeat(rt, plan, given),
-        b'd' => changes::drain(rt, plan),
-        b'b' => bend::bend(rt, plan, line::byte_at(line, arguments), given),
-        _ => {
-            tell(rt, plan, command, given, line, arguments)?;
-            Ok(plan)
-        }
+// A line, and what comes of it.
+fn turn(rt: &(impl Print + AllocGlobal), plan: &mut Plan, line: &[u8]) -> io::Result<()> {
+    rt.write_all(line)?;
+    print!(rt; " ->")?;
+    match Command::of_line(rt.alloc(), line)? {
+        Some(command) => obey(rt, plan, command)?,
+        None => print!(rt; " no command")?,
     }
-}
-
-fn turn(rt: &impl Print, plan: Plan, line: &[u8]) -> io::Result<Plan> {
-    print::put(rt, line)?;
-    print::put(rt, b" ->")?;
-    let label = line::behind(line, 0, b':');
-    let next = obey(rt, plan, line, line::behind(line, label, b' '))?;
-    print::put(rt, b"\n")?;
-    Ok(next)
-}
-
-fn run(rt: &impl Print, text: &[u8]) -> io::Result<()> {
-    let mut plan = plan::open(b"").plan;
-    let mut start = 0;
-    while start < text.len() {
-        let end = line::find(text, start, b'\n');
-        let next = turn(rt, plan, &text[start..end])?;
-        plan = next;
-        if end == text.len() {
-            return Ok(());
-        }
-        start = end + 1;
-    }
-    Ok(())
-}
-
-// Reads until the buffer is full or the input ends, and gives how many bytes were read.
-fn read_full(input: &mut impl Read, buffer: &mut [u8]) -> io::Result<usize>
-    ensures { IfOk result (λ n. n ≤ length buffer.new) }
-{
-    let mut done = 0;
-    while done < buffer.len() {
-        let n = input.read(&mut buffer[done..])?;
-        if n == 0 {
-            break;
-        }
-        done += n;
-    }
-    Ok(done)
+    println!(rt;)
 }
 
 fn main(rt: HostRuntime) -> io::Result<()> {
-    let mut input = [0u8; MAX_INPUT];
-    let n = read_full(&mut rt.stdin(), &mut input)?;
-    run(&rt, &input[..n])
+    let mut input = Vec::new(rt.alloc());
+    rt.stdin().take(MAX_INPUT).read_to_end(&mut input)?;
+    let mut plan = plan::no_plan();
+    for line in input.split_inclusive(|byte| *byte == b'\n') {
+        turn(&rt, &mut plan, line.strip_suffix(b"\n").unwrap_or(line))?;
+    }
+    Ok(())
 }

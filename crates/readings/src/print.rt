@@ -1,45 +1,33 @@
-// Words, numbers and bytes.
-use std::io;
+// What several commands print.
+use cut_tree::PairFound;
+use std::fmt;
+use std::fmt::Write;
 
-pub fn put(rt: &impl Print, text: &[u8]) -> io::Result<()> {
-    rt.write_all(text)
-}
+// The weight, the node whose parent edge it is, the side as a number, and how many nodes the side has.
+#[derive(Clone, Copy, Debug)]
+pub struct Found(pub PairFound);
 
-// Words and a number behind them.
-pub fn put_number(rt: &impl Print, words: &[u8], number: u64) -> io::Result<()> {
-    put(rt, words)?;
-    print!(rt; "{number}")
-}
-
-// The size of a signed number: at -(n + 1) the complement is n.
-pub fn size(z: i32) -> u32 {
-    if z < 0 {
-        return (!z) as u32 + 1;
-    }
-    z as u32
-}
-
-pub fn put_signed(rt: &impl Print, z: i32) -> io::Result<()> {
-    if z < 0 {
-        put_number(rt, b" -", size(z) as u64)
-    } else {
-        put_number(rt, b" ", size(z) as u64)
+impl fmt::Display for Found {
+    fn fmt<W: fmt::Write>(&self, f: &mut fmt::Formatter<W>) -> fmt::Result {
+        let PairFound {
+            weight,
+            node,
+            side,
+            size,
+        } = self.0;
+        write!(f, " weight {weight} node {node} side {side} size {size}")
     }
 }
 
-fn put_byte(rt: &impl Print, byte: u8) -> io::Result<()> {
-    put(rt, b" ")?;
-    print!(rt; "{byte:02x}")
-}
+// The characters of a text.
+#[derive(Clone, Copy, Debug)]
+pub struct Text<'a>(pub &'a [u8]);
 
-// Bytes, each in two digits.
-pub fn put_bytes(rt: &impl Print, bytes: &[u8]) -> io::Result<()> {
-    for i in 0..bytes.len() {
-        put_byte(rt, bytes[i])?;
+impl fmt::Display for Text<'_> {
+    fn fmt<W: fmt::Write>(&self, f: &mut fmt::Formatter<W>) -> fmt::Result {
+        for byte in self.0 {
+            f.write_char(char::from(*byte))?;
+        }
+        Ok(())
     }
-    Ok(())
-}
-
-pub fn put_refusal(rt: &impl Print, number: u32) -> io::Result<()> {
-    put_number(rt, b" refused ", number as u64)
 }

@@ -1,3 +1,3 @@
 -- Lemmas, for the proofs. Nothing here has to be believed.
-pub mod ColumnsLaws
 pub mod TextLaws
+pub mod PlacedLaws

@@ -4,7 +4,7 @@ use Rattle.base.specs.Basics.{at}
 use Rattle.base.specs.Checks.{accepted}
 use Rattle.network.specs.declared.Network.{Network}
 use Rattle.network_file.specs.Reading.{read_file}
-use Rattle.network_file.specs.declared.Reading.{Reading}
+use Rattle.network_file.specs.Reading.{Reading}
 use Rattle.cut_tree.specs.Rule.{rule}
 
 -- the weight of node 1 in the tree of a network

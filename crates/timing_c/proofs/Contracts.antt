@@ -1,6 +1,6 @@
 -- The archive's contract, as the prover has it, is that of the library's function of the same name: by `refl`, so that
 -- one that is changed alone is refused here.
-use mathlib.Core.Path.{◌≡◌, refl}
+use Rattle.std.specs.Prelude.{◌≡◌, refl}
 use seplogic.Ra.Ura.{Ura}
 use types.Logic.{Logic}
 use Rattle.timing.specs.contracts.pamzolit_timing as timing

@@ -1,5 +1,6 @@
 // The archive of the benchmark's own function (bench/timed.h): that of `timing`, under the same name and with the same
 // clause.
+// Kept: C finds only the names of the crate that is built as an archive.
 #![tactic(auto)]
 
 ghost use Rattle.std.specs.Prelude.{◌≡◌};

@@ -1,138 +1,114 @@
 // Calls on a plan, accepted and refused, each judged by the machine and by a trial of every side.
 use crate::headrooms::headroom_right;
-use crate::keeping::{Change, change_of, steps_not_kept};
-use crate::lawful::{balance_of, lawful};
+use crate::keeping::Change;
+use crate::lawful::is_lawful;
 use crate::lightest::lightest_right;
-use crate::machine::{
-    Machine, change_number, changed, flow_number, headroom_number, pair_number, top_capacity,
-    top_link, undo_number, undone,
-};
-use crate::pairs::{answer_right, both_ends_right};
-use crate::same::{same_network, same_plan, same_stack};
-use crate::sides::{WORDS, best_of};
-use cut_tree::PairAnswer;
-use network::MAX_LINKS;
-use plan::{Changed, Plan};
+use crate::machine::Machine;
+use crate::pairs::{both_ends_right, found_right};
+use crate::sides::best_of;
+use network::Refusal;
+use plan::{Altered, Plan};
+use std::alloc::{AllocError, Global};
 
-// Counts of links: 0 to the most.
-pub const COUNTS: usize = MAX_LINKS + 1;
+// What stands in a buffer of flows that is not filled.
+const UNFILLED: i32 = 7;
 
-// Whether a change or an undo was refused with this number, no count, and the plan as before.
-fn refused_right(p: Plan, reply: Changed, number: u32) -> bool {
-    if reply.number != number {
+// Whether a change of link k to capacity d, or an undo that is one, was accepted on this plan: it leaves the capacities
+// and the stack that the machine has then, the new tree's lightest edge, and the keeping rule's count.
+pub fn altered_right(
+    p: &Plan,
+    k: usize,
+    d: u32,
+    reply: Result<Altered, Refusal>,
+    after: &Machine,
+) -> bool {
+    let Ok(altered) = reply else {
         return false;
-    }
-    if reply.count != 0 {
-        return false;
-    }
-    same_plan(reply.plan, p)
+    };
+    let left = altered.plan;
+    left.network == after.network
+        && after.has_stack(&left.stack)
+        && lightest_right(&left)
+        && Change::of(&p.network, k, d).is_some_and(|change| {
+            change.steps_not_kept(&p.steps, &left.steps, p.network.nodes) == altered.count as usize
+        })
 }
 
-// Whether one was accepted: the machine's capacities and stack, the new tree's lightest edge, and the keeping rule's
-// count.
-fn accepted_right(p: Plan, reply: Changed, h: Change, x: Machine) -> bool {
-    let after = reply.plan;
-    let old = p.steps;
-    let new = after.steps;
-    if reply.number != 0 {
-        return false;
-    }
-    if !same_network(after.network, x.network) {
-        return false;
-    }
-    if !same_stack(after.stack, x.stack) {
-        return false;
-    }
-    if !lightest_right(after) {
-        return false;
-    }
-    steps_not_kept(h, old, new, p.network.nodes) == reply.count
+// Two nodes that a plan is asked for, the machine beside it, and the value of every side.
+#[derive(Clone, Copy)]
+pub struct Question<'a> {
+    pub plan: &'a Plan,
+    pub machine: &'a Machine,
+    pub values: &'a [u32],
+    pub s: usize,
+    pub t: usize,
 }
 
-pub fn change_right(p: Plan, x: Machine, k: usize, c: u32, reply: Changed) -> bool {
-    let number = change_number(x, k, c);
-    if number != 0 {
-        return refused_right(p, reply, number);
-    }
-    accepted_right(p, reply, change_of(p.network, k, c), changed(x, k, c))
-}
-
-pub fn undo_right(p: Plan, x: Machine, reply: Changed) -> bool {
-    let number = undo_number(x);
-    if number != 0 {
-        return refused_right(p, reply, number);
-    }
-    let h = change_of(p.network, top_link(x), top_capacity(x));
-    accepted_right(p, reply, h, undone(x))
-}
-
-pub fn has_number(answer: PairAnswer, number: u32) -> bool {
-    match answer {
-        PairAnswer::Refused(e) => e == number,
-        PairAnswer::Found {
-            weight: _,
-            node: _,
-            side: _,
-            size: _,
-        } => false,
-    }
-}
-
-// Whether a pair is answered rightly, and from both ends alike.
-pub fn pair_right(p: Plan, x: Machine, values: &[u32; WORDS], s: usize, t: usize) -> bool {
-    let here = plan::pair(p, s, t);
-    let there = plan::pair(p, t, s);
-    let number = pair_number(x, s, t);
-    if number != 0 {
-        return has_number(here, number) && has_number(there, number);
-    }
-    if !both_ends_right(here, there, p.network.nodes) {
-        return false;
-    }
-    answer_right(here, p.tree, p.network.nodes, values, s, t)
-}
-
-// Whether every place still holds 7.
-fn untouched(out: [i32; MAX_LINKS]) -> bool {
-    for i in 0..MAX_LINKS {
-        if out[i] != 7 {
-            return false;
+impl Question<'_> {
+    // Whether the pair is answered rightly, and from both ends alike.
+    pub fn pair_right(self) -> bool {
+        let Question {
+            plan,
+            machine,
+            values,
+            s,
+            t,
+        } = self;
+        let here = plan::pair(*plan, s, t);
+        let there = plan::pair(*plan, t, s);
+        if let Err(refusal) = machine.check_pair(s, t) {
+            return here == Err(refusal) && there == Err(refusal);
+        }
+        let n = plan.network.nodes;
+        match (here, there) {
+            (Ok(here), Ok(there)) => {
+                both_ends_right(here, there, n) && found_right(here, &plan.tree, n, values, s, t)
+            }
+            _ => false,
         }
     }
-    true
-}
 
-pub fn flow_right(
-    p: Plan,
-    x: Machine,
-    values: &[u32; WORDS],
-    s: usize,
-    t: usize,
-    length: usize,
-) -> bool {
-    let mut out = [7i32; MAX_LINKS];
-    let m = length % COUNTS;
-    let reply = plan::flow(p, s, t, &mut out[..m]);
-    let number = flow_number(x, s, t, m);
-    if number != reply {
-        return false;
+    // Whether a flow is written rightly to a buffer of this length; refused, the buffer is left.
+    pub fn flow_right(self, alloc: Global, length: usize) -> Result<bool, AllocError> {
+        let Question {
+            plan,
+            machine,
+            values,
+            s,
+            t,
+        } = self;
+        let mut out = vec![in alloc; UNFILLED; length]?;
+        let reply = plan::flow(*plan, s, t, &mut out);
+        let outcome = machine.check_flow(s, t, length);
+        Ok(
+            reply == outcome
+                && match outcome {
+                    Err(_) => out.iter().all(|&x| x == UNFILLED),
+                    Ok(()) => best_of(values, s, t).is_some_and(|best| is_lawful(
+                        &machine.network,
+                        &out,
+                        s,
+                        t,
+                        best.value,
+                    )),
+                },
+        )
     }
-    if number != 0 {
-        return untouched(out);
-    }
-    let best = best_of(values, s, t);
-    lawful(balance_of(x.network, out), s, t, best.value)
-}
 
-pub fn headroom_call_right(
-    p: Plan,
-    x: Machine,
-    values: &[u32; WORDS],
-    s: usize,
-    t: usize,
-    demand: u32,
-) -> bool {
-    let best = best_of(values, s, t);
-    let reply = plan::headroom(p, s, t, demand);
-    headroom_right(reply, headroom_number(x, s, t, demand), best.value, demand)
+    // Whether the headroom beside a demand is right.
+    pub fn headroom_right(self, alloc: Global, demand: u32) -> Result<bool, AllocError> {
+        let Question {
+            plan,
+            machine,
+            values,
+            s,
+            t,
+        } = self;
+        let found = plan::headroom(*plan, s, t, demand);
+        let weight = best_of(values, s, t).map_or(0, |best| best.value);
+        Ok(
+            found.err() == machine.check_headroom(s, t, demand).err()
+                && headroom_right(alloc, found, weight, demand)?,
+        )
+    }
 }

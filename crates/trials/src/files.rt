@@ -1,130 +1,83 @@
 // What opening and writing do with files. These are written a second time here: n, m, then a, b, c for each link, each
 // number in groups of seven bits, lowest first.
-use crate::same::same_but_stack;
-use network::{MAX_LINKS, Network};
-use network_file::MAX_FILE;
-use plan::{Opening, Plan};
+use network::{Network, Refusal};
+use network_file::{Fault, MAX_FILE};
+use plan::{MAX_DEPTH, Plan, Stack};
+use std::alloc::{AllocError, Global};
 
-fn put_byte(out: &mut [u8; MAX_FILE], place: usize, x: usize) {
-    let i = place % MAX_FILE;
-    out[i] = (x % 256) as u8;
+// What stands in a buffer where nothing is written.
+const UNWRITTEN: u8 = 170;
+
+fn push_number(file: &mut Vec<u8>, number: usize) -> Result<(), AllocError> {
+    let mut rest = number;
+    while rest > 127 {
+        file.push((128 + rest % 128) as u8)?;
+        rest /= 128;
+    }
+    file.push(rest as u8)?;
+    Ok(())
 }
 
-// Writes v, below 2^21, at a place, and gives the place behind it.
-fn put_number(out: &mut [u8; MAX_FILE], place: usize, v: usize) -> usize {
-    let i = place % MAX_FILE;
-    if v < 128 {
-        put_byte(out, i, v);
-        return i + 1;
+// The file of a network.
+pub fn file_of(alloc: Global, net: &Network) -> Result<Vec<u8>, AllocError> {
+    let mut file = Vec::new(alloc);
+    push_number(&mut file, net.nodes)?;
+    push_number(&mut file, net.links)?;
+    let ends = net.a.iter().zip(&net.b);
+    for ((&a, &b), &capacity) in ends.zip(&net.capacity).take(net.links) {
+        push_number(&mut file, a as usize)?;
+        push_number(&mut file, b as usize)?;
+        push_number(&mut file, capacity as usize)?;
     }
-    put_byte(out, i, 128 + v % 128);
-    if v < 16384 {
-        put_byte(out, i + 1, v / 128);
-        return i + 2;
-    }
-    put_byte(out, i + 1, 128 + v / 128 % 128);
-    put_byte(out, i + 2, v / 16384);
-    i + 3
+    Ok(file)
 }
 
-fn put_link(out: &mut [u8; MAX_FILE], place: usize, net: Network, k: usize) -> usize {
-    let i = k % MAX_LINKS;
-    let behind_a = put_number(out, place, net.a[i] as usize);
-    let behind_b = put_number(out, behind_a, net.b[i] as usize);
-    put_number(out, behind_b, net.capacity[i] as usize)
-}
-
-// Writes the file of a network, and gives its length.
-pub fn put_file(out: &mut [u8; MAX_FILE], net: Network) -> usize {
-    let m = net.links;
-    let behind_n = put_number(out, 0, net.nodes);
-    let mut place = put_number(out, behind_n, m);
-    for k in 0..m {
-        place = put_link(out, place, net, k);
-    }
-    place
-}
-
-fn same_bytes(x: &[u8; MAX_FILE], y: &[u8; MAX_FILE]) -> bool {
-    for i in 0..MAX_FILE {
-        if x[i] != y[i] {
-            return false;
-        }
-    }
-    true
-}
-
-// Opens the file of this length at the front of an array.
-pub fn open_first(file: [u8; MAX_FILE], length: usize) -> Opening {
-    if length > MAX_FILE {
-        return plan::open(&file);
-    }
-    plan::open(&file[..length])
-}
-
-// Whether an opening is accepted and gives a plan like this one, with an empty stack.
-fn opening_right(opening: Opening, p: Plan) -> bool {
-    let fresh = opening.plan;
-    if opening.number != 0 {
-        return false;
-    }
-    if opening.place != 0 {
-        return false;
-    }
-    if fresh.stack.depth != 0 {
-        return false;
-    }
-    same_but_stack(fresh, p)
+fn is_unwritten(buffer: &[u8]) -> bool {
+    buffer.iter().all(|&byte| byte == UNWRITTEN)
 }
 
 // Whether a buffer that is too short for a file of this length is refused and left.
-fn short_right(p: Plan, length: usize) -> bool {
-    let mut out = [170u8; MAX_FILE];
-    let clean = out;
-    if length == 0 {
-        return false;
-    }
-    let short = (length - 1) % MAX_FILE;
-    let refused = plan::write(p, &mut out[..short]);
-    if refused.number != 18 {
-        return false;
-    }
-    if refused.length != 0 {
-        return false;
-    }
-    same_bytes(&clean, &out)
+fn short_right(alloc: Global, p: &Plan, length: usize) -> Result<bool, AllocError> {
+    let mut out = vec![in alloc; UNWRITTEN; length.saturating_sub(1)]?;
+    let refused = plan::write(*p, &mut out);
+    Ok(refused == Err(Refusal::BufferTooShort) && is_unwritten(&out))
 }
 
-// Whether writing gives the file of this network and leaves the rest, and opening that file gives the plan again.
-pub fn file_right(p: Plan, net: Network) -> bool {
-    let mut file = [170u8; MAX_FILE];
-    let mut out = [170u8; MAX_FILE];
-    let length = put_file(&mut file, net);
-    let written = plan::write(p, &mut out);
-    if written.number != 0 {
-        return false;
-    }
-    if written.length != length {
-        return false;
-    }
-    if !same_bytes(&file, &out) {
-        return false;
-    }
-    if !short_right(p, length) {
-        return false;
-    }
-    opening_right(open_first(out, length), p)
+// Whether writing gives this file and leaves the rest.
+fn written_right(p: &Plan, file: &[u8]) -> bool {
+    let mut out = [UNWRITTEN; MAX_FILE];
+    let written = plan::write(*p, &mut out);
+    written == Ok(file.len())
+        && out
+            .strip_prefix(file)
+            .is_some_and(|rest| is_unwritten(rest))
+}
+
+// Whether writing gives the file of this network, and opening that file gives the plan again, with an empty stack.
+pub fn file_right(alloc: Global, p: &Plan, net: &Network) -> Result<bool, AllocError> {
+    let file = file_of(alloc, net)?;
+    let stack = Stack {
+        depth: 0,
+        link: [0; MAX_DEPTH],
+        capacity: [0; MAX_DEPTH],
+    };
+    Ok(
+        written_right(p, &file)
+            && short_right(alloc, p, file.len())?
+            && plan::open(&file) == Ok(Plan { stack, ..*p }),
+    )
+}
+
+// A file without its last byte.
+pub fn cut(file: &[u8]) -> &[u8] {
+    file.split_last().map_or(file, |(_, front)| front)
 }
 
 // Whether the file without its last byte, and with a byte more, are refused.
-pub fn damaged_right(file: [u8; MAX_FILE], length: usize) -> bool {
-    if length < 1 {
-        return false;
-    }
-    if length >= MAX_FILE {
-        return false;
-    }
-    let cut = open_first(file, length - 1);
-    let longer = open_first(file, length + 1);
-    cut.number == 1 && longer.number == 9 && longer.place == length
+pub fn damaged_right(mut file: Vec<u8>) -> Result<bool, AllocError> {
+    let place = file.len();
+    let early = plan::open(cut(&file)).is_err_and(|fault| fault.refusal == Refusal::EndsEarly);
+    file.push(0)?;
+    let refusal = Refusal::BytesFollow;
+    Ok(early && plan::open(&file) == Err(Fault { refusal, place }))
 }

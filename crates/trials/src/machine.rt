@@ -1,138 +1,103 @@
-// The history as a plain machine (docs/SCOPE.md, 9), kept beside the plan: it is fed the calls
-// and never the plan.
+// The history as a plain machine (docs/SCOPE.md, 9), kept beside the plan: it is fed the calls and never the plan.
 use crate::keeping::with_capacity;
-use network::{MAX_CAPACITY, MAX_LINKS, Network};
+use network::{MAX_CAPACITY, Network, Refusal};
 use plan::{MAX_DEMAND, MAX_DEPTH, Stack};
+use std::alloc::{AllocError, Global};
 
-// The capacities, in the network that was opened, and the stack.
-#[derive(Clone, Copy)]
+// A link and the capacity that it had before a change.
+#[derive(Clone, Copy, Default, PartialEq, Eq)]
+pub struct Entry {
+    pub link: usize,
+    pub capacity: u32,
+}
+
+// The capacities, in the network that was opened, and the changes that can be undone.
+#[derive(Clone, Drop)]
 pub struct Machine {
     pub network: Network,
-    pub stack: Stack,
+    entries: Vec<Entry>,
 }
 
-pub fn started(net: Network) -> Machine {
-    let stack = Stack {
-        depth: 0,
-        link: [0; MAX_DEPTH],
-        capacity: [0; MAX_DEPTH],
-    };
-    Machine {
-        network: net,
-        stack: stack,
+impl Machine {
+    pub fn started(alloc: Global, network: Network) -> Machine {
+        Machine {
+            network,
+            entries: Vec::new(alloc),
+        }
     }
-}
 
-// The number of a call by the table of checks; 0 where it is accepted.
-pub fn change_number(x: Machine, k: usize, c: u32) -> u32 {
-    if k >= x.network.links {
-        return 10;
-    }
-    if c > MAX_CAPACITY {
-        return 11;
-    }
-    if x.stack.depth == MAX_DEPTH {
-        return 12;
-    }
-    0
-}
+    // What the table of checks says of each call.
 
-pub fn undo_number(x: Machine) -> u32 {
-    if x.stack.depth == 0 { 13 } else { 0 }
-}
-
-pub fn pair_number(x: Machine, s: usize, t: usize) -> u32 {
-    let n = x.network.nodes;
-    if s >= n {
-        return 14;
+    pub fn check_change(&self, k: usize, c: u32) -> Result<(), Refusal> {
+        if k >= self.network.links {
+            Err(Refusal::NoSuchLink)
+        } else if c > MAX_CAPACITY {
+            Err(Refusal::CapacityTooLarge)
+        } else if self.entries.len() == MAX_DEPTH {
+            Err(Refusal::StackFull)
+        } else {
+            Ok(())
+        }
     }
-    if t >= n {
-        return 14;
-    }
-    if s == t { 15 } else { 0 }
-}
 
-// That of a change, and then that of a pair.
-pub fn preview_number(x: Machine, k: usize, c: u32, s: usize, t: usize) -> u32 {
-    let number = change_number(x, k, c);
-    if number != 0 {
-        return number;
+    pub fn check_pair(&self, s: usize, t: usize) -> Result<(), Refusal> {
+        let n = self.network.nodes;
+        if s >= n || t >= n {
+            Err(Refusal::NoSuchNode)
+        } else if s == t {
+            Err(Refusal::SameNode)
+        } else {
+            Ok(())
+        }
     }
-    pair_number(x, s, t)
-}
 
-pub fn flow_number(x: Machine, s: usize, t: usize, length: usize) -> u32 {
-    let number = pair_number(x, s, t);
-    if number != 0 {
-        return number;
+    pub fn check_preview(&self, k: usize, c: u32, s: usize, t: usize) -> Result<(), Refusal> {
+        self.check_change(k, c)?;
+        self.check_pair(s, t)
     }
-    if length != x.network.links { 16 } else { 0 }
-}
 
-pub fn headroom_number(x: Machine, s: usize, t: usize, demand: u32) -> u32 {
-    let number = pair_number(x, s, t);
-    if number != 0 {
-        return number;
+    pub fn check_flow(&self, s: usize, t: usize, length: usize) -> Result<(), Refusal> {
+        self.check_pair(s, t)?;
+        if length != self.network.links {
+            return Err(Refusal::FlowLength);
+        }
+        Ok(())
     }
-    if demand > MAX_DEMAND { 17 } else { 0 }
-}
 
-// An accepted change: (k, old capacity) is pushed and k is set.
-pub fn changed(x: Machine, k: usize, c: u32) -> Machine {
-    let mut stack = x.stack;
-    let net = x.network;
-    let i = k % MAX_LINKS;
-    let top = stack.depth % MAX_DEPTH;
-    stack.link[top] = i as u16;
-    stack.capacity[top] = net.capacity[i];
-    stack.depth = top + 1;
-    let after = with_capacity(net, i, c);
-    Machine {
-        network: after,
-        stack: stack,
+    pub fn check_headroom(&self, s: usize, t: usize, demand: u32) -> Result<(), Refusal> {
+        self.check_pair(s, t)?;
+        if demand > MAX_DEMAND {
+            return Err(Refusal::DemandTooLarge);
+        }
+        Ok(())
     }
-}
 
-// The entry on top of the stack.
-pub fn top_link(x: Machine) -> usize {
-    let stack = x.stack;
-    let depth = stack.depth;
-    if depth == 0 {
-        return 0;
+    // A change: accepted, the link and its old capacity are pushed and the capacity is set.
+    pub fn change(&mut self, k: usize, c: u32) -> Result<Result<(), Refusal>, AllocError> {
+        let outcome = self.check_change(k, c);
+        if outcome.is_ok() {
+            let capacity = self.network.capacity.get(k).copied().unwrap_or(0);
+            self.entries.push(Entry { link: k, capacity })?;
+            self.network = with_capacity(self.network, k, c);
+        }
+        Ok(outcome)
     }
-    let top = (depth - 1) % MAX_DEPTH;
-    stack.link[top] as usize
-}
 
-pub fn top_capacity(x: Machine) -> u32 {
-    let stack = x.stack;
-    let depth = stack.depth;
-    if depth == 0 {
-        return 0;
+    // An undo: accepted, the entry on top is popped and its capacity restored.
+    pub fn undo(&mut self) -> Result<Entry, Refusal> {
+        let top = self.entries.pop().ok_or(Refusal::NothingToUndo)?;
+        self.network = with_capacity(self.network, top.link, top.capacity);
+        Ok(top)
     }
-    let top = (depth - 1) % MAX_DEPTH;
-    stack.capacity[top]
-}
 
-fn popped(stack: Stack) -> Stack {
-    let depth = stack.depth;
-    if depth == 0 {
-        return stack;
-    }
-    let top = (depth - 1) % MAX_DEPTH;
-    let mut rest = stack;
-    rest.link[top] = 0;
-    rest.capacity[top] = 0;
-    rest.depth = top;
-    rest
-}
-
-// An accepted undo: the entry on top is popped and its capacity restored.
-pub fn undone(x: Machine) -> Machine {
-    let before = with_capacity(x.network, top_link(x), top_capacity(x));
-    let stack = popped(x.stack);
-    Machine {
-        network: before,
-        stack: stack,
+    // Whether a plan's stack has these entries, and 0 in the places behind them.
+    pub fn has_stack(&self, stack: &Stack) -> bool {
+        let places = stack.link.iter().zip(&stack.capacity).enumerate();
+        stack.depth == self.entries.len()
+            && places
+                .map(|(i, (&link, &capacity))| (i, link as usize, capacity))
+                .all(|(i, link, capacity)| {
+                    self.entries.get(i).copied().unwrap_or_default() == Entry { link, capacity }
+                })
     }
 }

@@ -14,22 +14,23 @@ mod pairs; // answers for pairs
 mod plans; // histories of plans
 mod previews; // previews of changes
 mod random; // random networks
-mod same; // equal records
 mod sides; // a trial of every side
 mod tally; // counts
 mod trees; // trees and changes
 mod windows; // a gate's readings
 
+use crate::tally::print_refusals;
 use std::io;
 
 fn main(rt: HostRuntime) -> io::Result<()> {
-    tally::print(&rt, b"flow", flows::try_flows(1000))?;
-    tally::print(&rt, b"tree", trees::try_trees(300))?;
-    let plans = plans::try_plans(100);
-    tally::print(&rt, b"plan", plans)?;
-    tally::print_refusals(&rt, b"refusals", plans.numbers)?;
-    tally::print_refusals(&rt, b"refusals of previews", plans.preview_numbers)?;
-    let windows = windows::try_windows(400);
-    tally::print(&rt, b"window", windows)?;
-    tally::print_refusals(&rt, b"refusals of readings", windows.numbers)
+    let alloc = rt.alloc();
+    flows::try_flows(alloc, 1000)?.print(&rt, "flow")?;
+    trees::try_trees(alloc, 300)?.print(&rt, "tree")?;
+    let plans = plans::try_plans(alloc, 100)?;
+    plans.print(&rt, "plan")?;
+    print_refusals(&rt, "refusals", &plans.refusals)?;
+    print_refusals(&rt, "refusals of previews", &plans.preview_refusals)?;
+    let windows = windows::try_windows(alloc, 400)?;
+    windows.print(&rt, "window")?;
+    print_refusals(&rt, "refusals of readings", &windows.refusals)
 }

@@ -1,140 +1,168 @@
-// What was compared, and how often it disagreed. The counts stay far below 2^64.
-use std::io;
-use std::num::wrapping_add_u64;
+// What was compared, and how often it disagreed.
+ghost use Rattle.std.specs.Prelude.{ℕ, ◌<◌, ◌≢◌};
 
+use crate::random::Random;
+use network::Refusal;
+use std::alloc::{AllocError, Global};
+use std::collections::BTreeSet;
+use std::{fmt, io};
+
+// What is compared.
 #[derive(Clone, Copy)]
+pub enum Kind {
+    Network,
+    Change,
+    List,
+    Call,
+    Preview,
+    RefusedPreview,
+    Reading,
+    RefusedReading,
+    Pair,
+}
+
+impl Kind {
+    // What a call of this kind is counted as where it is refused.
+    fn refused(self) -> Kind {
+        match self {
+            Kind::Preview => Kind::RefusedPreview,
+            Kind::Reading => Kind::RefusedReading,
+            _ => self,
+        }
+    }
+}
+
+// All kinds, in their order.
+const KINDS: [Kind; 9] = [
+    Kind::Network,
+    Kind::Change,
+    Kind::List,
+    Kind::Call,
+    Kind::Preview,
+    Kind::RefusedPreview,
+    Kind::Reading,
+    Kind::RefusedReading,
+    Kind::Pair,
+];
+
+// As many of them are called.
+impl fmt::Display for Kind {
+    fn fmt<W: fmt::Write>(&self, f: &mut fmt::Formatter<W>) -> fmt::Result {
+        f.write_str(match self {
+            Kind::Network => "networks",
+            Kind::Change => "changes",
+            Kind::List => "lists",
+            Kind::Call => "calls",
+            Kind::Preview => "previews",
+            Kind::RefusedPreview => "refused previews",
+            Kind::Reading => "readings",
+            Kind::RefusedReading => "refused readings",
+            Kind::Pair => "pairs",
+        })
+    }
+}
+
+// How many of each kind were compared, and how many disagreed. The counts stay far below 2^64.
+#[derive(Drop)]
 pub struct Tally {
-    pub networks: u64,
-    pub changes: u64,
-    pub lists: u64,
-    pub calls: u64,
-    pub previews: u64,
-    pub refused_previews: u64,
-    pub readings: u64,
-    pub refused_readings: u64,
-    pub pairs: u64,
-    pub wrong: u64,
-    // bit e for each number e that a call was answered with, and the same of previews
-    pub numbers: u32,
-    pub preview_numbers: u32,
+    counts: [u64; KINDS.len()],
+    wrong: u64,
+    // the refusals that came, by their numbers, and the same of previews
+    pub refusals: BTreeSet<u32>,
+    pub preview_refusals: BTreeSet<u32>,
 }
 
-pub fn nothing() -> Tally {
-    Tally {
-        networks: 0,
-        changes: 0,
-        lists: 0,
-        calls: 0,
-        previews: 0,
-        refused_previews: 0,
-        readings: 0,
-        refused_readings: 0,
-        pairs: 0,
-        wrong: 0,
-        numbers: 0,
-        preview_numbers: 0,
+impl Tally {
+    fn new(alloc: Global) -> Tally {
+        Tally {
+            counts: [0; KINDS.len()],
+            wrong: 0,
+            refusals: BTreeSet::new(alloc),
+            preview_refusals: BTreeSet::new(alloc),
+        }
+    }
+
+    pub fn count(&mut self, kind: Kind, right: bool) {
+        let place = kind as usize;
+        self.counts[place] = self.counts[place].saturating_add(1);
+        if !right {
+            self.wrong = self.wrong.saturating_add(1);
+        }
+    }
+
+    // Counts a call, and notes its refusal, if it was refused. Previews have a set of their own.
+    pub fn count_call(
+        &mut self,
+        kind: Kind,
+        outcome: Result<(), Refusal>,
+        right: bool,
+    ) -> Result<(), AllocError> {
+        let Err(refusal) = outcome else {
+            self.count(kind, right);
+            return Ok(());
+        };
+        self.count(kind.refused(), right);
+        let refusals = match kind {
+            Kind::Preview => &mut self.preview_refusals,
+            _ => &mut self.refusals,
+        };
+        refusals.insert(refusal.number())?;
+        Ok(())
+    }
+
+    // Counts each two of n nodes, in both orders, as they are judged.
+    pub fn count_pairs<F: Fn(usize, usize) -> Result<bool, AllocError>>(
+        &mut self,
+        n: usize,
+        judge: F,
+    ) -> Result<(), AllocError>
+        requires { (s t : ℕ) → s < n → t < n → s ≢ t → F.pre judge s t }
+    {
+        for s in 0..n {
+            for t in 0..n {
+                if s != t {
+                    self.count(Kind::Pair, judge(s, t)?);
+                }
+            }
+        }
+        Ok(())
+    }
+
+    // " 12 things" of each kind that there is, and the disagreements
+    pub fn print(&self, rt: &impl Print, name: &str) -> io::Result<()> {
+        print!(rt; "{name}")?;
+        for (kind, &count) in KINDS.iter().zip(&self.counts) {
+            if count != 0 {
+                print!(rt; " {count} {kind}")?;
+            }
+        }
+        println!(rt; " {} disagreements", self.wrong)
     }
 }
 
-fn judged(t: Tally, right: bool) -> Tally {
-    let mut next = t;
-    if right {
-        return next;
-    }
-    next.wrong = wrapping_add_u64(t.wrong, 1);
-    next
-}
-
-pub fn count_network(t: Tally, right: bool) -> Tally {
-    let mut next = judged(t, right);
-    next.networks = wrapping_add_u64(t.networks, 1);
-    next
-}
-
-pub fn count_change(t: Tally, right: bool) -> Tally {
-    let mut next = judged(t, right);
-    next.changes = wrapping_add_u64(t.changes, 1);
-    next
-}
-
-pub fn count_list(t: Tally, right: bool) -> Tally {
-    let mut next = judged(t, right);
-    next.lists = wrapping_add_u64(t.lists, 1);
-    next
-}
-
-pub fn count_call(t: Tally, number: u32, right: bool) -> Tally {
-    let mut next = judged(t, right);
-    next.numbers = t.numbers | (1u32 << (number % 32));
-    next.calls = wrapping_add_u64(t.calls, 1);
-    next
-}
-
-// Accepted previews are counted apart from refused ones.
-pub fn count_preview(t: Tally, number: u32, right: bool) -> Tally {
-    let mut next = judged(t, right);
-    next.preview_numbers = t.preview_numbers | (1u32 << (number % 32));
-    if number == 0 {
-        next.previews = wrapping_add_u64(t.previews, 1);
-    } else {
-        next.refused_previews = wrapping_add_u64(t.refused_previews, 1);
-    }
-    next
-}
-
-// The same of a gate's readings, which have a tally of their own.
-pub fn count_reading(t: Tally, number: u32, right: bool) -> Tally {
-    let mut next = judged(t, right);
-    next.numbers = t.numbers | (1u32 << (number % 32));
-    if number == 0 {
-        next.readings = wrapping_add_u64(t.readings, 1);
-    } else {
-        next.refused_readings = wrapping_add_u64(t.refused_readings, 1);
-    }
-    next
-}
-
-pub fn count_pair(t: Tally, right: bool) -> Tally {
-    let mut next = judged(t, right);
-    next.pairs = wrapping_add_u64(t.pairs, 1);
-    next
-}
-
-// " 12 things", where there are any
-fn print_count(rt: &impl Print, n: u64, what: &[u8]) -> io::Result<()> {
-    if n == 0 {
-        return Ok(());
-    }
-    print!(rt; " {n}")?;
-    rt.write_all(what)
-}
-
-pub fn print(rt: &impl Print, name: &[u8], t: Tally) -> io::Result<()> {
-    rt.write_all(name)?;
-    print_count(rt, t.networks, b" networks")?;
-    print_count(rt, t.changes, b" changes")?;
-    print_count(rt, t.lists, b" lists")?;
-    print_count(rt, t.calls, b" calls")?;
-    print_count(rt, t.previews, b" previews")?;
-    print_count(rt, t.refused_previews, b" refused previews")?;
-    print_count(rt, t.readings, b" readings")?;
-    print_count(rt, t.refused_readings, b" refused readings")?;
-    print_count(rt, t.pairs, b" pairs")?;
-    println!(rt; " {} disagreements", t.wrong)
-}
-
-fn print_number(rt: &impl Print, numbers: u32, e: u32) -> io::Result<()> {
-    if (numbers >> (e % 32)) % 2 == 1 {
-        print!(rt; " {e}")?;
-    }
-    Ok(())
-}
-
-// Words, and the refusal numbers that came.
-pub fn print_refusals(rt: &impl Print, words: &[u8], numbers: u32) -> io::Result<()> {
-    rt.write_all(words)?;
-    for e in 1..32 {
-        print_number(rt, numbers, e)?;
+// Words, and the numbers of the refusals that came.
+pub fn print_refusals(rt: &impl Print, words: &str, refusals: &BTreeSet<u32>) -> io::Result<()> {
+    print!(rt; "{words}")?;
+    for number in refusals {
+        print!(rt; " {number}")?;
     }
     println!(rt)
+}
+
+// Makes a trial so many times, with a generator that begins at a seed.
+// Kept: a trial takes the generator and the tally as two, since it draws from the one while it counts in the other.
+pub fn repeat<F: Fn(&mut Random, &mut Tally) -> Result<(), AllocError>>(
+    alloc: Global,
+    seed: usize,
+    times: usize,
+    trial: F,
+) -> Result<Tally, AllocError>
+    requires { F.IsAlwaysCallable trial }
+{
+    let mut random = Random::new(seed);
+    let mut tally = Tally::new(alloc);
+    for _ in 0..times {
+        trial(&mut random, &mut tally)?;
+    }
+    Ok(tally)
 }

@@ -1,15 +1,13 @@
 // A gate's record through random lists of resets and readings on random plans (docs/SCOPE.md, 6), written again: the
 // headrooms since the last reset are kept in order, and limits come from a trial of every side.
-use crate::files::{open_first, put_file};
-use crate::headrooms::digit;
-use crate::random::{apart, draw, draw_network, next};
-use crate::sides::{WORDS, best_of, values_if_fits};
-use crate::tally::{Tally, count_list, count_reading, nothing};
-use gate_window::{Window, WindowReply};
-use network::Network;
-use network_file::MAX_FILE;
-use plan::Plan;
-use std::num::{wrapping_add_u32, wrapping_sub_u32, wrapping_sub_usize};
+use crate::files::{cut, file_of};
+use crate::random::Random;
+use crate::sides::{best_of, values_if_fits};
+use crate::tally::{Kind, Tally, repeat};
+use gate_window::{Noted, Window, WindowReply};
+use network::{MAX_NODES, Refusal};
+use plan::{MAX_DEMAND, Plan};
+use std::alloc::{AllocError, Global};
 
 // The resets and readings of a list, and of how many nodes and links the networks are.
 const LIST: usize = 40;
@@ -20,14 +18,8 @@ const LINKS: usize = 14;
 
 const SEED: usize = 4;
 
-// The headrooms of the readings accepted since the last reset, in order: how many came before those that are kept, how
-// many are kept, and these.
-#[derive(Clone, Copy)]
-struct Kept {
-    before: u32,
-    readings: u32,
-    headrooms: [i32; LIST],
-}
+// The headrooms that a demand may leave, in tenths and 110 more: near -10.0, 0, 10.0 or 100.0, or between.
+const HEADROOMS: [u32; 7] = [8, 10, 60, 108, 208, 600, 1108];
 
 // A reading for s and t, whose limit is `weight`.
 #[derive(Clone, Copy)]
@@ -35,237 +27,227 @@ struct Reading {
     s: usize,
     t: usize,
     demand: u32,
-    weight: u32,
+    weight: Option<u32>,
+}
+
+impl Reading {
+    // A reading for nodes of n that may be none or equal.
+    fn drawn(random: &mut Random, n: usize, values: &[u32]) -> Reading {
+        let last = n.min(MAX_NODES);
+        let s = random.draw(last);
+        let t = random.draw(last);
+        let weight = best_of(values, s, t).map(|best| best.value);
+        Reading {
+            s,
+            t,
+            demand: some_demand(random, weight.unwrap_or(0)),
+            weight,
+        }
+    }
+
+    // What the table of checks says of it on a plan of n nodes, where there is room for it or not; with no node it is
+    // no sound one.
+    fn check(self, n: usize, has_room: bool) -> Result<(), Refusal> {
+        if n == 0 {
+            Err(Refusal::NotSound)
+        } else if self.s >= n || self.t >= n {
+            Err(Refusal::NoSuchNode)
+        } else if self.s == self.t {
+            Err(Refusal::SameNode)
+        } else if self.demand > 1_000_000_000 {
+            Err(Refusal::DemandTooLarge)
+        } else if !has_room {
+            Err(Refusal::TooManyReadings)
+        } else {
+            Ok(())
+        }
+    }
+
+    // The weight less the demand.
+    fn headroom(self) -> Option<i32> {
+        i32::try_from(self.weight? as i64 - self.demand as i64).ok()
+    }
+}
+
+// A demand that leaves one of these headrooms, or one that is a little higher; now and then one at its own limit. Where
+// the weight is too small for it, one above the limit.
+fn some_demand(random: &mut Random, weight: u32) -> u32 {
+    if random.draw(10) == 0 {
+        return MAX_DEMAND + random.draw(1) as u32;
+    }
+    let more = random.last(3) as u32;
+    let headroom = HEADROOMS[random.draw(6)] + more;
+    let limit = weight.saturating_add(110);
+    limit.checked_sub(headroom).unwrap_or(MAX_DEMAND + 1)
+}
+
+// The record as it started, and the headrooms of the readings accepted since then, in order.
+#[derive(Drop)]
+struct Kept {
+    start: Window,
+    headrooms: Vec<i32>,
+}
+
+impl Kept {
+    fn new(alloc: Global, start: Window) -> Kept {
+        Kept {
+            start,
+            headrooms: Vec::new(alloc),
+        }
+    }
+
+    fn count(&self) -> u32 {
+        u32::try_from(self.headrooms.len()).map_or(
+            u32::MAX,
+            |more| self.start.count.saturating_add(more),
+        )
+    }
+
+    // What a record is that has their count, the last and the least.
+    fn window(&self) -> Window {
+        let Window {
+            last,
+            lowest,
+            count,
+        } = self.start;
+        let started = (count > 0).then_some(lowest);
+        Window {
+            last: self.headrooms.last().copied().unwrap_or(last),
+            lowest: self
+                .headrooms
+                .iter()
+                .copied()
+                .chain(started)
+                .min()
+                .unwrap_or(lowest),
+            count: self.count(),
+        }
+    }
+}
+
+fn digit(x: u32) -> u8 {
+    b'0' + (x % 10) as u8
+}
+
+// What a window shows of a headroom.
+// Kept: an arm for each shape; `format!` gives a string, which would have to be copied into the four bytes.
+fn text_of(headroom: i32) -> [u8; 4] {
+    let size = headroom.unsigned_abs();
+    let tenth = digit(size);
+    let whole = digit(size / 10);
+    match headroom {
+        ..-99 => *b"LOW ",
+        -99..0 => [b'-', whole, b'.', tenth],
+        0..100 => [b' ', whole, b'.', tenth],
+        100..1000 => [digit(size / 100), whole, b'.', tenth],
+        1000.. => *b"HIGH",
+    }
 }
 
 // A record on its way through a list.
-#[derive(Clone, Copy)]
+#[derive(Drop)]
 struct Run {
-    state: usize,
-    tally: Tally,
+    alloc: Global,
+    random: Random,
     window: Window,
     kept: Kept,
 }
 
-// A record whose last headroom is its lowest: all zeros by a reset; else with one reading that is kept, or none.
-fn started(state: usize, tally: Tally, headroom: i32, before: u32, readings: u32) -> Run {
-    let window = Window {
-        last: headroom,
-        lowest: headroom,
-        count: wrapping_add_u32(before, readings),
-    };
-    let kept = Kept {
-        before: before,
-        readings: readings,
-        headrooms: [headroom; LIST],
-    };
-    Run {
-        state: state,
-        tally: tally,
-        window: window,
-        kept: kept,
+impl Run {
+    // A record that no reset made, with no readings or about as many as it takes.
+    fn started(alloc: Global, mut random: Random) -> Run {
+        let headroom = random.draw(400) as i32 - 200;
+        let count = if random.draw(2) == 0 {
+            let mut ahead = random;
+            999_996 + ahead.draw(6) as u32
+        } else {
+            0
+        };
+        let window = Window {
+            last: headroom,
+            lowest: headroom,
+            count,
+        };
+        Run {
+            alloc,
+            random,
+            window,
+            kept: Kept::new(alloc, window),
+        }
     }
-}
 
-fn count_of(kept: Kept) -> u32 {
-    wrapping_add_u32(kept.before, kept.readings)
-}
+    // Whether a reading gives the reply and leaves the record that it has to, by itself and on a copy.
+    fn try_reading(&mut self, tally: &mut Tally, p: &Plan, r: Reading) -> Result<(), AllocError> {
+        let Reading { s, t, demand, .. } = r;
+        let before = self.window;
+        let outcome = r.check(p.network.nodes, self.kept.count() < 1_000_000);
+        let mut expected = WindowReply {
+            number: 0,
+            text: *b"    ",
+        };
+        match outcome {
+            Ok(()) => {
+                let headroom = r.headroom().unwrap_or(0);
+                self.kept.headrooms.push(headroom)?;
+                expected.text = text_of(headroom);
+            }
+            Err(refusal) => expected.number = refusal.number(),
+        }
+        let reply = gate_window::reading(&mut self.window, *p, s, t, demand);
+        let window = self.window;
+        let noted = gate_window::after_reading(*p, before, s, t, demand);
+        let right = WindowReply::from(reply) == expected
+            && window == self.kept.window()
+            && noted == reply.map(|text| Noted { window, text });
+        tally.count_call(Kind::Reading, outcome, right)
+    }
 
-fn lesser(x: i32, y: i32) -> i32 {
-    if x < y { x } else { y }
-}
-
-// Whether a record has their count, the last and the least. If there is none, the first place has what it started with.
-fn record_right(w: Window, kept: Kept) -> bool {
-    let n = kept.readings as usize;
-    let mut last = kept.headrooms[0];
-    let mut lowest = last;
-    for i in 0..n {
-        last = kept.headrooms[i % LIST];
-        lowest = lesser(lowest, last);
+    // A reset, or mostly a reading. A reset leaves out the draws of a reading.
+    fn one_step(&mut self, tally: &mut Tally, p: &Plan, values: &[u32]) -> Result<(), AllocError> {
+        if self.random.draw(12) == 0 {
+            self.random.skip(4);
+            gate_window::reset(&mut self.window);
+            self.kept = Kept::new(
+                self.alloc,
+                Window {
+                    last: 0,
+                    lowest: 0,
+                    count: 0,
+                },
+            );
+            return Ok(());
+        }
+        let reading = Reading::drawn(&mut self.random, p.network.nodes, values);
+        self.try_reading(tally, p, reading)
     }
-    if w.last != last {
-        return false;
-    }
-    if w.lowest != lowest {
-        return false;
-    }
-    w.count == count_of(kept)
-}
-
-// The weight less the demand: below zero the complement of what is short, less 1.
-fn headroom_of(weight: u32, demand: u32) -> i32 {
-    if weight < demand {
-        return !(((demand - weight - 1) % 2_147_483_648) as i32);
-    }
-    ((weight - demand) % 2_147_483_648) as i32
-}
-
-// With the headroom of a reading that was answered with this number.
-fn kept_after(kept: Kept, number: u32, r: Reading) -> Kept {
-    if number != 0 {
-        return kept;
-    }
-    let mut next = kept;
-    next.headrooms[kept.readings as usize % LIST] = headroom_of(r.weight, r.demand);
-    next.readings = wrapping_add_u32(kept.readings, 1);
-    next
-}
-
-// The number of a reading on a plan of n nodes by the table of checks; with no node it is no sound one.
-fn reading_number(r: Reading, n: usize, count: u32) -> u32 {
-    if n == 0 {
-        return 19;
-    }
-    if r.s >= n {
-        return 14;
-    }
-    if r.t >= n {
-        return 14;
-    }
-    if r.s == r.t {
-        return 15;
-    }
-    if r.demand > 1_000_000_000 {
-        return 17;
-    }
-    if count > 999_999 { 20 } else { 0 }
-}
-
-// Whether a text is these four bytes.
-fn is_text(text: [u8; 4], a: u8, b: u8, c: u8, d: u8) -> bool {
-    if text[0] != a {
-        return false;
-    }
-    if text[1] != b {
-        return false;
-    }
-    if text[2] != c {
-        return false;
-    }
-    text[3] == d
-}
-
-// Whether a text shows so many tenths below zero.
-fn shows_short(text: [u8; 4], short: u32) -> bool {
-    if short > 99 {
-        return is_text(text, b'L', b'O', b'W', b' ');
-    }
-    is_text(text, b'-', digit(short / 10), b'.', digit(short))
-}
-
-// Whether a text shows so many tenths.
-fn shows_left(text: [u8; 4], left: u32) -> bool {
-    if left > 999 {
-        return is_text(text, b'H', b'I', b'G', b'H');
-    }
-    if left < 100 {
-        return is_text(text, b' ', digit(left / 10), b'.', digit(left));
-    }
-    is_text(text, digit(left / 100), digit(left / 10), b'.', digit(left))
-}
-
-fn reply_right(reply: WindowReply, number: u32, r: Reading) -> bool {
-    let text = reply.text;
-    if reply.number != number {
-        return false;
-    }
-    if number != 0 {
-        return is_text(text, b' ', b' ', b' ', b' ');
-    }
-    if r.weight < r.demand {
-        return shows_short(text, r.demand - r.weight);
-    }
-    shows_left(text, r.weight - r.demand)
-}
-
-fn try_reading(run: Run, p: Plan, r: Reading, state: usize) -> Run {
-    let number = reading_number(r, p.network.nodes, count_of(run.kept));
-    let kept = kept_after(run.kept, number, r);
-    let after = gate_window::after_reading(p, run.window, r.s, r.t, r.demand);
-    let window = after.window;
-    let replied = reply_right(after.reply, number, r);
-    let tally = count_reading(run.tally, number, replied && record_right(window, kept));
-    Run {
-        state: state,
-        tally: tally,
-        window: window,
-        kept: kept,
-    }
-}
-
-// A demand that leaves a headroom near -10.0, 0, 10.0 or 100.0, or between; now and then one at its own limit.
-fn some_demand(v: usize, weight: u32) -> u32 {
-    let w = next(v);
-    let above = [8, 10, 60, 108, 208, 600, 1108];
-    if draw(v, 10) == 0 {
-        return 1_000_000_000 + draw(w, 1) as u32;
-    }
-    let headroom = wrapping_add_u32(above[draw(w, 6)], draw(v, 3) as u32);
-    wrapping_sub_u32(wrapping_add_u32(weight, 110), headroom)
-}
-
-// A reading for nodes of n that may be none or equal.
-fn some_reading(v: usize, n: usize, values: &[u32; WORDS]) -> Reading {
-    let w = next(v);
-    let s = draw(v, n % 65);
-    let t = draw(w, n % 65);
-    let best = best_of(values, s, t);
-    Reading {
-        s: s,
-        t: t,
-        demand: some_demand(next(w), best.value),
-        weight: best.value,
-    }
-}
-
-// A reset, or mostly a reading.
-fn one_step(run: Run, p: Plan, values: &[u32; WORDS]) -> Run {
-    let v = next(run.state);
-    let w = next(v);
-    let state = next(next(next(w)));
-    if draw(v, 12) == 0 {
-        return started(state, run.tally, 0, 0, 0);
-    }
-    try_reading(run, p, some_reading(w, p.network.nodes, values), state)
-}
-
-fn try_list(run: Run, p: Plan, values: &[u32; WORDS]) -> Tally {
-    let mut here = run;
-    for i in 0..LIST {
-        here = one_step(here, p, values);
-    }
-    here.tally
-}
-
-// A record that no reset made, with no readings or about as many as it takes.
-fn some_start(v: usize, tally: Tally) -> Run {
-    let w = next(v);
-    let headroom = headroom_of(draw(v, 400) as u32, 200);
-    if draw(w, 2) != 0 {
-        return started(w, tally, headroom, 0, 0);
-    }
-    started(w, tally, headroom, 999_995 + draw(next(w), 6) as u32, 1)
 }
 
 // A list on the plan of a file, or sometimes on that beside the refusal of the file without its last byte.
-fn try_network(tally: Tally, state: usize, net: Network) -> Tally {
-    let mut file = [0u8; MAX_FILE];
-    let whole = put_file(&mut file, net);
-    let cut = draw(state, 9) / 9;
-    let opening = open_first(file, wrapping_sub_usize(whole, cut));
-    let counted = count_list(tally, opening.number as usize == cut);
-    let values = values_if_fits(net);
-    try_list(some_start(next(state), counted), opening.plan, &values)
+fn try_network(alloc: Global, random: &mut Random, tally: &mut Tally) -> Result<(), AllocError> {
+    let net = random.network(LAST_NODE, LINKS);
+    let mut apart = random.apart();
+    let file = file_of(alloc, &net)?;
+    let values = values_if_fits(alloc, &net)?;
+    let is_cut = apart.last(9) == 9;
+    let opened = plan::open(if is_cut { cut(&file) } else { &file });
+    let expected = is_cut.then_some(Refusal::EndsEarly);
+    tally.count(
+        Kind::List,
+        opened.err().map(|fault| fault.refusal) == expected,
+    );
+    let p = opened.unwrap_or(plan::no_plan());
+    let mut run = Run::started(alloc, apart);
+    for _ in 0..LIST {
+        run.one_step(tally, &p, &values)?;
+    }
+    Ok(())
 }
 
-pub fn try_windows(lists: usize) -> Tally {
-    let mut state = SEED;
-    let mut tally = nothing();
-    for i in 0..lists {
-        let drawn = draw_network(state, LAST_NODE, LINKS);
-        state = drawn.state;
-        tally = try_network(tally, apart(state), drawn.network);
-    }
-    tally
+pub fn try_windows(alloc: Global, lists: usize) -> Result<Tally, AllocError> {
+    repeat(
+        alloc,
+        SEED,
+        lists,
+        |random, tally| try_network(alloc, random, tally),
+    )
 }

@@ -1,6 +1,6 @@
 -- Places that are 0, from one on.
-use Rattle.std.specs.Prelude.{◌≡◌, refl, ◌≢◌, true, false, ℕ, zero, suc, ◌+◌, ◌≤◌, ◌<◌, List, [], ◌∷◌, length, drop, replicate, set, eqb}
-use Rattle.std.proofs.Common.{ap₂, arith, drop_of_length-le, drop-cons, drop-set-lt, add-one, eqb-true, ne_eqb}
+use Rattle.std.specs.Prelude.{◌≡◌, refl, true, ℕ, zero, suc, ◌+◌, ◌≤◌, List, [], ◌∷◌, length, drop, replicate, set, eqb}
+use Rattle.std.proofs.Common.{ap₂, arith, drop-set-lt, add-one, eqb-true}
 use Rattle.base.specs.Basics.{at, blank, blank_from}
 use Rattle.base.proofs.laws.Bools.{and_l, and_r}
 
@@ -18,19 +18,6 @@ blank_at zero [] e = refl
 blank_at zero (x ∷ xs) e = eqb-true x 0 (and_l (eqb x 0) (blank xs) e)
 blank_at (suc d) [] e = refl
 blank_at (suc d) (x ∷ xs) e = blank_at d xs e
-
--- a loop over the places from n on: at its end, at a 0, at another number
-pub blank_end : (i : ℕ) (xs : List ℕ) → length xs ≤ i → blank (drop i xs) ≡ true
-unfolding blank
-blank_end i xs l = rw (drop_of_length-le xs l)
-
-pub blank_more : (i : ℕ) (xs : List ℕ) → i < length xs → at xs i ≡ 0 → blank (drop (i + 1) xs) ≡ blank (drop i xs)
-unfolding blank
-blank_more i xs l e = rw (drop-cons xs i 0 l, e, add-one)
-
-pub blank_fails : (i : ℕ) (xs : List ℕ) → i < length xs → at xs i ≢ 0 → blank (drop i xs) ≡ false
-unfolding blank
-blank_fails i xs l e = rw (drop-cons xs i 0 l, ne_eqb (at xs i) 0 e)
 
 pub blank_zeros : (n : ℕ) → blank (replicate n 0) ≡ true
 unfolding blank

@@ -108,12 +108,6 @@ one_not_below s t n = (λ e l. true≢false (sym e ∙ (both_below s t n).1 l), 
     go true e h = absurd (h ((both_below s t n).0 (ap not e)))
     go false e h = refl
 
-pub first_outside : (s t n : ℕ) → n ≤ s → not (ltb s n && ltb t n) ≡ true
-first_outside s t n l = (one_not_below s t n).1 (λ h. omega (arith, h.0))
-
-pub other_outside : (s t n : ℕ) → n ≤ t → not (ltb s n && ltb t n) ≡ true
-other_outside s t n l = (one_not_below s t n).1 (λ h. omega (arith, h.1))
-
 -- ---- a reply by its number: accepted x, or refused
 pub number_kept : {A : Type 0} (number : A → ℕ) (e : ℕ) (x : A) (refused : ℕ → A) → number x ≡ 0 → ((n : ℕ) → number (refused n) ≡ n)
     → number (accepted e x refused) ≡ e

@@ -1,5 +1,5 @@
 -- Tests over all places, and lists of tests.
-use Rattle.std.specs.Prelude.{◌≡◌, refl, Bool, true, false, not, ◌&&◌, ℕ, zero, suc, ◌+◌, ◌<◌, List, [], ◌∷◌, eqb}
+use Rattle.std.specs.Prelude.{◌≡◌, refl, Bool, true, false, not, ℕ, zero, suc, ◌+◌, ◌<◌, List, [], ◌∷◌, eqb}
 use Rattle.std.proofs.Common.{sym, ◌∙◌, true≢false, arith, add-one, ne_eqb}
 use Rattle.std.proofs.Math.Bool.{and-true}
 use Rattle.std.proofs.Math.Decide.{ℕ_discrete}
@@ -74,14 +74,6 @@ unfolding every
 settled (fail e) = rw e
 settled (pass e s) = rw e (settled s)
 settled (last {x} e) = e ∙ sym (and-true x)
-
--- two tests that were answered together
-pub pass_two : (x y : Bool) {b : Bool} {xs : List Bool} → (x && y) ≡ true → Settled xs b → Settled (x ∷ y ∷ xs) b
-pass_two x y e s = pass (and_l x y e) (pass (and_r x y e) s)
-
-pub fail_two : (x y : Bool) {xs : List Bool} → (x && y) ≡ false → Settled (x ∷ y ∷ xs) false
-fail_two true y e = pass refl (fail e)
-fail_two false y e = fail refl
 
 -- a test that a function answered with r
 pub answered_no : {r x : Bool} → r ≡ x → not r ≡ true → x ≡ false

@@ -18,7 +18,7 @@ use Rattle.cut_tree.specs.Definition1.{tree_net}
 use Rattle.cut_tree.specs.declared.Built.{Built}
 use Rattle.cut_tree.specs.declared.Edge.{Edge}
 use Rattle.cut_tree.specs.declared.Tree.{Tree}
-use Rattle.cut_tree.specs.declared.PairAnswer.TheVariants.{Refused, Found}
+use Rattle.cut_tree.specs.Path.{Refused, Found}
 
 -- ---- resort A
 abbrev resort_a : Network

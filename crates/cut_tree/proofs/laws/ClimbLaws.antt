@@ -1,14 +1,15 @@
 -- Laws of climbs: one for each way through the code, and what a climb to node 0 holds.
-use Prim.Native.Nat.{ℕ, zero, suc, ◌-◌, ◌≤◌, ◌<◌}
+use Rattle.std.specs.Prelude.{ℕ, zero, suc, ◌-◌, ◌≤◌, ◌<◌}
 use Rattle.std.specs.Prelude.{◌≡◌, Bool, not, ◌&&◌}
 use Rattle.std.proofs.Math.Path.{refl, ap}
 use Rattle.std.proofs.Common.{sym, ◌∙◌}
 use Rattle.std.proofs.Math.Bool.{true, false, true≢false}
-use mathlib.Core.List.{List, [], ◌∷◌}
-use native.Mathlib.Omega.{arith}
+use Rattle.std.specs.Prelude.{List, [], ◌∷◌}
+use Rattle.std.proofs.Common.{arith}
 use Rattle.std.proofs.Math.Decide.{ℕ_discrete}
 use Rattle.std.proofs.Math.Dec.{eqb}
-use borrow.Author.Tests.{eqb-true, eqb-false, eq-eqb, ne_eqb}
+use Rattle.std.proofs.Common.{eqb-true, eq-eqb, ne_eqb}
+use Rattle.std.proofs.lemmas.Bool.{eqb-false}
 use Rattle.base.specs.Word.{holds}
 use Rattle.base.specs.Basics.{pick, at, among}
 use Rattle.network.specs.Limits.{max_nodes}
@@ -75,6 +76,8 @@ module _ (parent : List ℕ) where
   unfolding climb_to
   climb_to_on stop zero i n h e = absurd (e refl)
   climb_to_on stop (suc left) i n h e = let q : suc left - 1 ≡ left = omega arith in rw (ne_eqb i 0 n, h, q)
+
+pub ruleset reaching = (reaches_end, reaches_none, reaches_on)
 
 -- ---- a climb that reaches node 0
 module _ (parent : List ℕ) where

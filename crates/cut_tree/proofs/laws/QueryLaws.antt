@@ -1,11 +1,10 @@
 -- Laws of the pair query: the edge found by two climbs is the lightest on the tree path, the lowest number among equals.
-use Prim.Native.Nat.{ℕ, zero, suc, ◌≤◌, ◌<◌}
-use Rattle.std.specs.Prelude.{◌≡◌, refl, Bool, not, ◌&&◌, ◌||◌, ltb, eqb}
-use Rattle.std.proofs.Common.{sym, ap, ◌∙◌, true≢false, arith}
-use Rattle.std.proofs.Math.Bool.{true, false, or-false}
-use mathlib.Core.List.{List, [], ◌∷◌}
+use Rattle.std.specs.Prelude.{ℕ, zero, suc, ◌≤◌, ◌<◌, ◌≡◌, refl, Bool, true, false, not, ◌&&◌, ◌||◌, List, [], ◌∷◌}
+use Rattle.std.specs.Prelude.{Option, None, Some, min, ltb, eqb}
+use Rattle.std.proofs.Common.{sym, ap, ◌∙◌, true≢false, arith, eq-eqb, ne_eqb, lt-ltb, le-ltb}
+use Rattle.std.proofs.Math.Bool.{or-false}
 use Rattle.std.proofs.Math.Decide.{ℕ_discrete, dec_lt}
-use borrow.Author.Tests.{eq-eqb, ne_eqb, lt-ltb, le-ltb, eqb-false}
+use Rattle.std.proofs.lemmas.Bool.{eqb-false}
 use Rattle.base.proofs.laws.Bools.{bool2, or_pick}
 use Rattle.base.proofs.laws.ChecksLaws.{both_below, refused_by, passed_row, later_rows}
 use Rattle.base.specs.Word.{holds}
@@ -13,51 +12,62 @@ use Rattle.node_set.specs.Set.{empty, added, Counted}
 use Rattle.node_set.proofs.theorems.Members.{holds_empty, holds_added}
 use Rattle.base.specs.Basics.{pick, at, differ, among}
 use Rattle.network.specs.Limits.{max_nodes}
-use Rattle.cut_tree.specs.Path.{max_climb, reaches, Climbs, climb, under, on_path, lightest_on, side_of, answer}
+use Rattle.cut_tree.specs.Path.{max_climb, reaches, climb, under, on_path, lightest_on, side_of, answer}
 use Rattle.cut_tree.specs.Path.{query_number, query_of}
 use Rattle.cut_tree.proofs.laws.MemberLaws.{among_head, among_later, among_on}
-use Rattle.cut_tree.specs.code.QueryParts.{Inside, Pair, climb_to, added_all, lighter, lightest_from}
+use Rattle.cut_tree.specs.code.QueryParts.{Inside, IsNode, Pair, climb_to, added_all, lighter, lightest_from}
 use Rattle.cut_tree.proofs.laws.ClimbLaws.{inside_lt, inside_next, climb_nonzero, climb_closed, climb_to_among}
+use Rattle.cut_tree.proofs.laws.ClimbLaws.{climb_end, climb_none, climb_on, climb_to_end, climb_to_none, climb_to_stop, climb_to_on}
 use Rattle.cut_tree.specs.Answer.{BothEnds}
-use Rattle.cut_tree.proofs.laws.PathLaws.{path_best}
+use Rattle.cut_tree.proofs.laws.PathLaws.{lowest_lightest}
 use Rattle.cut_tree.proofs.laws.SideLaws.{side_lt}
-use Rattle.cut_tree.proofs.laws.LightestLaws.{Best, one_best, no_best, best_from}
+use Rattle.cut_tree.proofs.laws.LightestLaws.{Met, none_met, met_from, met_lightest}
+use Rattle.std.specs.Prelude.{Result, IsErrAnd}
+use Rattle.std.proofs.lemmas.Result.{err_from_is_err_and}
+use Rattle.network.specs.Refusals.{refusal_number}
+use Rattle.network.proofs.laws.RefusalLaws.{refusal_some}
+use Rattle.network.specs.declared.refusals.Refusal.{Refusal}
+use Rattle.cut_tree.specs.Results.{as_answer}
+use Rattle.cut_tree.specs.declared.PairFound.{PairFound}
 use Rattle.cut_tree.specs.declared.Tree.{Tree}
-use Rattle.cut_tree.specs.declared.PairAnswer.{PairAnswer}
-use Rattle.cut_tree.specs.declared.PairAnswer.TheVariants.{Refused, Found}
+use Rattle.cut_tree.specs.Path.{PairAnswer}
+use Rattle.cut_tree.specs.Path.{Refused, Found}
 
 -- ---- by the ways through the code
 module _ (weight : List ℕ) where
-  pub lighter_none : (b i : ℕ) → b ≡ 0 → i ≡ lighter weight b i
+  pub lighter_none : (i : ℕ) → i ≡ lighter weight None i
   unfolding lighter
-  lighter_none b i e = rw (eq-eqb b 0 e)
+  lighter_none i = refl
 
-  pub lighter_less : (b i : ℕ) → (b ≡ 0 → ⊥) → at weight i < at weight b → i ≡ lighter weight b i
-  unfolding lighter
-  lighter_less b i n l = rw (ne_eqb b 0 n, lt-ltb (at weight i) (at weight b) l)
-
-  pub lighter_more : (b i : ℕ) → (b ≡ 0 → ⊥) → at weight b < at weight i → b ≡ lighter weight b i
-  unfolding lighter
-  lighter_more b i n l =
-      rw (ne_eqb b 0 n, le-ltb (at weight i) (at weight b) (omega arith), lt-ltb (at weight b) (at weight i) l)
-
-  module _ (b i : ℕ) (n : b ≡ 0 → ⊥) (l : at weight b ≤ at weight i) (m : at weight i ≤ at weight b) where
-    pub lighter_lower : i < b → i ≡ lighter weight b i
+  module _ (b i : ℕ) where
+    pub lighter_less : at weight i < at weight b → i ≡ lighter weight (Some b) i
     unfolding lighter
-    lighter_lower k = rw (ne_eqb b 0 n, le-ltb (at weight i) (at weight b) l, le-ltb (at weight b) (at weight i) m, lt-ltb i b k)
+    lighter_less l = rw (lt-ltb (at weight i) (at weight b) l)
 
-    pub lighter_same : b ≤ i → b ≡ lighter weight b i
+    pub lighter_more : at weight b < at weight i → b ≡ lighter weight (Some b) i
     unfolding lighter
-    lighter_same k = rw (ne_eqb b 0 n, le-ltb (at weight i) (at weight b) l, le-ltb (at weight b) (at weight i) m, le-ltb i b k)
+    lighter_more l = rw (le-ltb (at weight i) (at weight b) (omega arith), lt-ltb (at weight b) (at weight i) l)
 
-  pub up_none : (b : ℕ) (xs : List ℕ) → xs ≡ [] → b ≡ lightest_from weight b xs
-  unfolding lightest_from
-  up_none b xs e = rw e
+    pub lighter_lower : at weight i ≡ at weight b → min i b ≡ lighter weight (Some b) i
+    unfolding lighter
+    lighter_lower e =
+        rw (le-ltb (at weight i) (at weight b) (omega (arith, e)), le-ltb (at weight b) (at weight i) (omega (arith, e)))
+        (go (dec_lt i b))
+      where
+        go : Dec (i < b) → min i b ≡ pick (ltb i b) i b
+        go (yes l) = rw (lt-ltb i b l) (omega arith)
+        go (no l) = rw (le-ltb i b (omega arith)) (omega arith)
 
-  pub up_on : (b i c r : ℕ) (xs ys : List ℕ) → xs ≡ i ∷ ys → c ≡ lighter weight b i → r ≡ lightest_from weight c ys
-      → r ≡ lightest_from weight b xs
+  pub up_none : (best : Option ℕ) (xs : List ℕ) → xs ≡ [] → best ≡ lightest_from weight best xs
   unfolding lightest_from
-  up_on b i c r xs ys e f g = rw (g, f, e)
+  up_none best xs e = rw e
+
+  pub up_on : (best : Option ℕ) (i c : ℕ) (r : Option ℕ) (xs ys : List ℕ) → xs ≡ i ∷ ys → c ≡ lighter weight best i
+      → r ≡ lightest_from weight (Some c) ys → r ≡ lightest_from weight best xs
+  unfolding lightest_from
+  up_on best i c r xs ys e f g = rw (g, f, e)
+
+pub ruleset lighter_ways = (lighter_none, lighter_less, lighter_more, lighter_lower)
 
 -- ---- the set of a climb
 pub added_none : (x : ℕ) (xs : List ℕ) → xs ≡ [] → x ≡ added_all x xs
@@ -67,6 +77,8 @@ added_none x xs e = rw e
 pub added_on : (x i y r : ℕ) (xs ys : List ℕ) → xs ≡ i ∷ ys → y ≡ added x i → r ≡ added_all y ys → r ≡ added_all x xs
 unfolding added_all
 added_on x i y r xs ys e f g = rw (g, f, e)
+
+pub ruleset gathering = (climb_end, climb_none, climb_on, added_none, added_on)
 
 holds_added_all : (x : ℕ) (xs : List ℕ) (v : ℕ) → holds (added_all x xs) v ≡ (holds x v || among v xs)
 unfolding added_all among
@@ -91,9 +103,9 @@ module _ (tree : Tree) (s t : ℕ) (h : Pair tree.parent s t) where
       same : (v : ℕ) → holds x v ≡ among v (climb ps max_climb j)
       same v = rw (e, d, holds_added_all empty (climb ps max_climb j) v, holds_empty v)
 
-  module _ (z x y best r : ℕ) (d : z ≡ empty) (ex : x ≡ added_all z (climb ps max_climb s))
+  module _ (z x y : ℕ) (best r : Option ℕ) (d : z ≡ empty) (ex : x ≡ added_all z (climb ps max_climb s))
       (f : ℕ) (g : f ≡ empty) (ey : y ≡ added_all f (climb ps max_climb t))
-      (ef : best ≡ lightest_from tree.weight 0 (climb_to y ps max_climb s))
+      (ef : best ≡ lightest_from tree.weight None (climb_to y ps max_climb s))
       (er : r ≡ lightest_from tree.weight best (climb_to x ps max_climb t)) where
     abbrev up : ℕ → Bool
     up u = among u (climb_to y ps max_climb s)
@@ -109,38 +121,44 @@ module _ (tree : Tree) (s t : ℕ) (h : Pair tree.parent s t) where
         rw (on_s u, on_t u)
         (bool2 (λ a b. (a && not b || b && not a) ≡ differ a b) ((refl, refl), (refl, refl)) (under ps u s) (under ps u t))
 
-    no_zero : (i j : ℕ) → (under ps 0 i && not (under ps 0 j)) ≡ false
-    no_zero i j = rw (climb_nonzero ps max_climb i)
+    from_s : Met ws up best
+    from_s = rw ef (met_from ws (λ u. false) up None (climb_to y ps max_climb s) (none_met ws) (λ u. refl))
 
-    from_s : Best ws up best
-    from_s = rw ef (best_from ws (λ u. false) up 0 (climb_to y ps max_climb s) (no_best ws) (on_s 0 ∙ no_zero s t) (λ u. refl))
+    from_both : Met ws (on_path ps s t) r
+    from_both = rw er (met_from ws up (on_path ps s t) best (climb_to x ps max_climb t) from_s both_ways)
 
-    from_both : Best ws (on_path ps s t) r
-    from_both = rw er (best_from ws up (on_path ps s t) best (climb_to x ps max_climb t) from_s (on_t 0 ∙ no_zero t s) both_ways)
-
-    pub lightest_on_lem : r ≡ lightest_on tree s t
+    pub lightest_on_lem : r ≡ Some (lightest_on tree s t)
     lightest_on_lem =
-        one_best ws (on_path ps s t) r (lightest_on tree s t) from_both (path_best h.count tree h.climbs s t h.from h.to)
+        met_lightest ws (on_path ps s t) r (lightest_on tree s t) from_both
+        (lowest_lightest h.count tree h.climbs s t h.from h.to h.apart)
 
 -- ---- what is found is a node
-module _ (weight : List ℕ) (k : ℕ) where
-  pub lighter_below : (b x : ℕ) → b < k → x < k → lighter weight b x < k
-  unfolding lighter
-  lighter_below b x bl xl =
-      go (eqb b 0) (ltb (at weight x) (at weight b)) (ltb (at weight b) (at weight x)) (ltb x b)
-    where
-      go : (p q r v : Bool) → pick p x (pick q x (pick r b (pick v x b))) < k
-      go true q r v = xl
-      go false true r v = xl
-      go false false true v = bl
-      go false false false true = xl
-      go false false false false = bl
+pub node_one : (v : ℕ) → v < max_nodes → IsNode (Some v)
+node_one v l u e = let f : v ≡ u = cc in omega arith
 
-  from_below : (b : ℕ) (xs : List ℕ) → b < k → ((x : ℕ) → among x xs ≡ true → x < k) → lightest_from weight b xs < k
+module _ (weight : List ℕ) where
+  pub lighter_below : (best : Option ℕ) (x : ℕ) → IsNode best → x < max_nodes → lighter weight best x < max_nodes
+  unfolding lighter
+  lighter_below None x bl xl = xl
+  lighter_below (Some b) x bl xl =
+      go (ltb (at weight x) (at weight b)) (ltb (at weight b) (at weight x)) (ltb x b) (bl b refl)
+    where
+      go : (q r v : Bool) → b < max_nodes → pick q x (pick r b (pick v x b)) < max_nodes
+      go true r v l = xl
+      go false true v l = l
+      go false false true l = xl
+      go false false false l = l
+
+  from_below : (best : Option ℕ) (xs : List ℕ) → IsNode best → ((x : ℕ) → among x xs ≡ true → x < max_nodes)
+      → IsNode (lightest_from weight best xs)
   unfolding lightest_from among
-  from_below b [] l h = l
-  from_below b (x ∷ xs) l h =
-      from_below (lighter weight b x) xs (lighter_below b x l (h x (among_head x xs))) (λ y m. h y (among_later y x xs m))
+  from_below best [] l h = l
+  from_below best (x ∷ xs) l h =
+      from_below (Some (lighter weight best x)) xs
+      (node_one (lighter weight best x) (lighter_below best x l (h x (among_head x xs)))) (λ y m. h y (among_later y x xs m))
+
+pub ruleset going_up =
+    (climb_to_end, climb_to_none, climb_to_stop, up_none, inside_lt, inside_next, node_one, lighter_below)
 
 module _ (parent : List ℕ) (stop : ℕ) where
   climb_to_below : (left i : ℕ) → Inside parent i → (x : ℕ) → among x (climb_to stop parent left i) ≡ true → x < max_nodes
@@ -155,9 +173,9 @@ module _ (parent : List ℕ) (stop : ℕ) where
       go false false (yes d) e ih = rw d (inside_lt h)
       go false false (no d) e ih = ih (sym (among_on x i (climb_to stop parent left (at parent i)) d) ∙ e)
 
-  pub up_below : (weight : List ℕ) (left i b : ℕ) → Inside parent i → b < max_nodes
-      → lightest_from weight b (climb_to stop parent left i) < max_nodes
-  up_below weight left i b h l = from_below weight max_nodes b (climb_to stop parent left i) l (climb_to_below left i h)
+  pub up_below : (weight : List ℕ) (left i : ℕ) (best : Option ℕ) → Inside parent i → IsNode best
+      → IsNode (lightest_from weight best (climb_to stop parent left i))
+  up_below weight left i best h l = from_below weight best (climb_to stop parent left i) l (climb_to_below left i h)
 
 -- ---- the answer
 pub query_nodes : (n s t r : ℕ) → r ≡ query_number n s t → r ≡ 0 → (s < n) × (t < n) × (s ≡ t → ⊥)
@@ -183,7 +201,7 @@ module _ (tree : Tree) (n s t : ℕ) where
   unfolding query_of
   query_answer l m d = rw (lt-ltb s n l, lt-ltb t n m, ne_eqb s t d)
 
-  -- r is the number that the code worked out
+  -- r is the number of the checks' outcome
   module _ (r : ℕ) (e : r ≡ query_number n s t) where
     pub query_refused : (r ≡ 0 → ⊥) → Refused r ≡ query_of tree n s t
     unfolding query_of
@@ -195,8 +213,10 @@ module _ (tree : Tree) (n s t : ℕ) where
     answered z v x size ev ex es =
         rw (sym e ∙ z, es.members n (rw ex (side_lt tree.parent n v s)), ex, ev)
 
-  pub pair_climbs : Climbs n tree.parent → s < n → t < n → Pair tree.parent s t
-  pair_climbs h l m = record { count = n; climbs = h; from = l; to = m }
+pub query_err : (tree : Tree) (n s t : ℕ) (e : Refusal) (r : Result PairFound Refusal) → refusal_number e ≡ query_number n s t
+    → IsErrAnd r (λ f. f ≡ e) → as_answer r ≡ query_of tree n s t
+query_err tree n s t e r q h =
+    let p = err_from_is_err_and r h in rw (p.1, p.2) (query_refused tree n s t (refusal_number e) q (refusal_some e))
 
 -- the answers from both ends: refused alike, or given
 module _ (tree : Tree) (n s t : ℕ) (P : PairAnswer → PairAnswer → Type 0) where

@@ -8,7 +8,7 @@ use Rattle.network.specs.declared.Network.{Network}
 use Rattle.cut_tree.specs.Rule.{least_cut}
 use Rattle.cut_tree.specs.Rebuild.{KeepTest, kept_by, kept_or_least_by}
 use Rattle.cut_tree.specs.declared.Steps.{Steps}
-use Rattle.cut_tree.specs.declared.StepCut.{StepCut}
+use Rattle.cut_tree.specs.Rule.{StepCut}
 
 pick_anew : (b : Bool) (x y : StepCut) → x.anew ≡ 0 → y.anew ≡ 1 → (pick b x y).anew ≡ pick b 0 1
 pick_anew true x y e f = e

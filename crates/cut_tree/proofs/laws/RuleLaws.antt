@@ -15,7 +15,7 @@ use Rattle.cut_tree.specs.Rule.{moved, placed, stepped, rule_by}
 use Rattle.cut_tree.specs.declared.Tree.{Tree}
 use Rattle.cut_tree.specs.declared.Steps.{Steps}
 use Rattle.cut_tree.specs.declared.Built.{Built}
-use Rattle.cut_tree.specs.declared.StepCut.{StepCut}
+use Rattle.cut_tree.specs.Rule.{StepCut}
 use Rattle.base.proofs.laws.ListLaws.{pick_le, set_le}
 
 -- ---- the nodes that are moved
@@ -80,6 +80,11 @@ placed_le m true tree s t X w sl tl h =
     let q = at tree.parent t in
     set_le m (set (moved X s t 0 tree.parent) s q) t s sl
     (set_le m (moved X s t 0 tree.parent) s q (h t) (moved_le m X s t 0 tree.parent sl h))
+
+pub stepped_le : (m : ℕ) (b : Built) (s t : ℕ) (x : StepCut) → s ≤ m → t ≤ m → ((i : ℕ) → at b.tree.parent i ≤ m) → (i : ℕ)
+    → at (stepped b s t x).tree.parent i ≤ m
+unfolding stepped
+stepped_le m b s t x sl tl h = placed_le m (holds x.side (at b.tree.parent t)) b.tree s t x.side x.value sl tl h
 
 pub parents_le : (cut : ℕ → ℕ → StepCut) (k x : ℕ) → at (rule_by cut k).tree.parent x ≤ k
 unfolding rule_by stepped

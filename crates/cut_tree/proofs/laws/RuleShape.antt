@@ -4,8 +4,8 @@ use Rattle.std.specs.Prelude.{◌≡◌, ◌≢◌, Bool, false, ◌&&◌, set, 
 use Rattle.std.proofs.Math.Path.{refl, ap}
 use Rattle.std.proofs.Common.{sym, ◌∙◌, pow_mono, eqb-true}
 use Rattle.std.proofs.Math.Bool.{true, true≢false}
-use Prim.Native.Nat.{ℕ, zero, suc, ◌-◌, ◌^◌, ◌≤◌, ◌<◌}
-use native.Mathlib.Omega.{arith}
+use Rattle.std.specs.Prelude.{ℕ, zero, suc, ◌-◌, ◌^◌, ◌≤◌, ◌<◌}
+use Rattle.std.proofs.Common.{arith}
 use Rattle.std.proofs.Math.Seq.{get_or-set_other}
 use Rattle.base.specs.Word.{holds}
 use Rattle.base.proofs.laws.WordLaws.{holds_out}
@@ -27,7 +27,7 @@ use Rattle.cut_tree.proofs.laws.RuleTree.{least_minimum, least_lt}
 use Rattle.cut_tree.specs.declared.Tree.{Tree}
 use Rattle.cut_tree.specs.declared.Steps.{Steps}
 use Rattle.cut_tree.specs.declared.Built.{Built}
-use Rattle.cut_tree.specs.declared.StepCut.{StepCut}
+use Rattle.cut_tree.specs.Rule.{StepCut}
 
 -- a side and its value as the cut of s and t: nodes only, with s and without t, and within the limit
 pub record CutFits (n s t side value : ℕ) : Type 0 where

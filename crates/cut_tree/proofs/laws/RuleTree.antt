@@ -3,7 +3,7 @@
 use Rattle.std.specs.Prelude.{◌≡◌, ◌≢◌, Bool, true, false, List, length, set}
 use Rattle.std.proofs.Math.Path.{refl, subst, fun_ext}
 use Rattle.std.proofs.Common.{◌∙◌, arith, length-set, get_or-set_same, get_or-set_other}
-use Prim.Native.Nat.{ℕ, zero, suc, ◌-◌, ◌^◌, ◌<◌}
+use Rattle.std.specs.Prelude.{ℕ, zero, suc, ◌-◌, ◌^◌, ◌<◌}
 use Rattle.std.proofs.Math.Pow.{pow_mono}
 use Rattle.min_cut.specs.Cut.{Net, cut_value, MinCut}
 use Rattle.base.specs.Word.{holds}

@@ -49,6 +49,8 @@ module _ (parent : List ℕ) (v x i left j : ℕ) (h : Known parent v x i left j
         known = h.known;
       }
 
+pub ruleset through = (through_end, through_known, through_none, through_on)
+
 -- ---- a word that grows
 word_ext : (n : ℕ) (X Y : Side) → ((i : ℕ) → i < n → X i ≡ Y i) → word n X ≡ word n Y
 word_ext n X Y h =
@@ -73,18 +75,9 @@ word_more i X =
     go false e k l (no q) = word_holds i X k (omega arith)
 
 -- ---- the pass over the nodes
-pub added_so : (a b : Bool) (x i y : ℕ) → b ≡ a → b ≡ true → y ≡ added x i → y ≡ added_if a x i
-added_so a b x i y e f g = g ∙ rw (← e, f) refl
-
-pub added_not : (a b : Bool) (x i : ℕ) → b ≡ a → b ≡ false → x ≡ added_if a x i
-added_not a b x i e f = rw (← e, f) refl
-
 pub pass_start : (parent : List ℕ) (v : ℕ) → 0 ≡ word 0 (under parent v)
 unfolding word
 pass_start parent v = refl
-
-pub pass_end : (parent : List ℕ) (v i n : ℕ) → i ≡ n → word i (under parent v) ≡ word n (under parent v)
-pass_end parent v i n e = rw e refl
 
 module _ (parent : List ℕ) (v x i : ℕ) (e : x ≡ word i (under parent v)) where
   pub pass_known : (n : ℕ) → Climbs n parent → i < n → Known parent v x i max_climb i
@@ -95,8 +88,17 @@ module _ (parent : List ℕ) (v x i : ℕ) (e : x ≡ word i (under parent v)) w
     known = λ k kl. rw e (word_holds i (under parent v) k kl);
   }
 
-  pub pass_next : added_if (under parent v i) x i ≡ word (i + 1) (under parent v)
+  pass_next : added_if (under parent v i) x i ≡ word (i + 1) (under parent v)
   pass_next = rw (add-one, e) (word_more i (under parent v))
+
+  module _ (b : Bool) (f : b ≡ under parent v i) where
+    pub pass_so : b ≡ true → (y : ℕ) → y ≡ added x i → y ≡ word (i + 1) (under parent v)
+    pass_so g y h = h ∙ (rw (← f, g) at pass_next)
+
+    pub pass_not : b ≡ false → x ≡ word (i + 1) (under parent v)
+    pass_not g = rw (← f, g) at pass_next
+
+pub ruleset passing = (pass_so, pass_not)
 
 -- ---- the side
 module _ (parent : List ℕ) (n v s x : ℕ) (l : s < n) (e : x ≡ word n (under parent v)) where
@@ -127,6 +129,8 @@ module _ (parent : List ℕ) (n v s x : ℕ) (l : s < n) (e : x ≡ word n (unde
 
       each : (i : ℕ) → i < n → not (holds (word n (under parent v)) i) ≡ holds (word n other) i
       each i m = ap not (word_holds n (under parent v) i m) ∙ flip (under parent v i) ∙ sym (word_holds n other i m)
+
+pub ruleset sides = (side_with, side_without, word_lt)
 
 pub side_lt : (parent : List ℕ) (n v s : ℕ) → side_of parent n v s < 2 ^ n
 unfolding side_of

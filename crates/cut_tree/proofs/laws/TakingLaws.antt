@@ -1,21 +1,16 @@
 -- Laws of the keeping test's code, one for each way through it.
-use Rattle.std.specs.Prelude.{◌≡◌, Bool, true, false, not, ℕ, ◌-◌, ◌≤◌, ◌<◌, leb, eqb}
-use Rattle.std.proofs.Math.Path.{refl}
-use Rattle.std.proofs.Common.{sym, ◌∙◌, true≢false}
+use Rattle.std.specs.Prelude.{◌≡◌, Bool, true, false, not, ◌&&◌, ℕ, ◌-◌, ◌≤◌, ◌<◌, leb, eqb, None, Some}
+use Rattle.std.proofs.Common.{refl, sym, ◌∙◌, true≢false, arith, leb-true, eq-eqb, ne_eqb, lt-ltb, le-ltb}
 use Rattle.std.specs.Bool.{beq}
 use Rattle.std.proofs.Math.Bool.{or-false}
-use native.Mathlib.Omega.{arith}
 use Rattle.std.proofs.Math.Decide.{dec_lt}
-use borrow.Author.Tests.{leb-true, eq-eqb, ne_eqb, lt-ltb, le-ltb}
-use Rattle.base.specs.Basics.{differ}
+use Rattle.base.specs.Basics.{pick, at, differ}
 use Rattle.base.specs.Word.{holds}
-use Rattle.base.proofs.laws.Bools.{and_r}
 use Rattle.network.specs.declared.Network.{Network}
-use Rattle.max_flow.specs.LeastCut.{least_cut_of}
-use Rattle.max_flow.specs.declared.Cut.{Cut}
 use Rattle.cut_tree.specs.Rule.{least_cut}
-use Rattle.cut_tree.specs.code.RebuildParts.{crossed, survived, step_kept, kept_cut, taken}
-use Rattle.cut_tree.specs.declared.StepCut.{StepCut}
+use Rattle.cut_tree.specs.Rebuild.{kept_by, kept_or_least_by}
+use Rattle.cut_tree.specs.code.RebuildParts.{crossed, survived, step_kept, kept_cut, kept, kept_or_least, step_of}
+use Rattle.cut_tree.specs.declared.Steps.{Steps}
 use Rattle.cut_tree.specs.declared.keep.Change.{Change}
 use Rattle.cut_tree.specs.declared.keep.OldStep.{OldStep}
 
@@ -52,7 +47,7 @@ module _ (h : Change) (side value : ℕ) where
       survived_not q = rw (ne_eqb h.old h.new n, le-ltb h.old h.new l, lt-ltb h.new h.old (omega arith), ← e, q)
 
   -- what survives has room for the fall
-  survived_fits : survived h side value ≡ true → h.old - h.new ≤ value
+  pub survived_fits : survived h side value ≡ true → h.old - h.new ≤ value
   survived_fits s = go (dec_lt h.new h.old) (crossed h side) refl
     where
       go : Dec (h.new < h.old) → (c : Bool) → c ≡ crossed h side → h.old - h.new ≤ value
@@ -60,34 +55,32 @@ module _ (h : Change) (side value : ℕ) where
       go (yes l) true e = leb-true _ _ (survived_fall true e (omega arith) (omega arith) refl ∙ s)
       go (yes l) false e = absurd (true≢false (sym (survived_not false e (omega arith) (omega arith) refl ∙ s)))
 
+pub ruleset surviving = (survived_same, survived_rise, survived_fall, survived_not)
+
 -- ---- a step that is kept
-module _ (h : Change) (o : OldStep) where
-  pub kept_moved : (t : ℕ) → (o.pivot ≡ t → ⊥) → false ≡ step_kept h o t
-  unfolding step_kept
-  kept_moved t n = rw (ne_eqb o.pivot t n)
+module _ (h : Change) (o : OldStep) (t : ℕ) where
+  pub kept_moved : (o.pivot ≡ t → ⊥) → None ≡ kept h o t
+  unfolding kept step_kept
+  kept_moved n = rw (ne_eqb o.pivot t n)
 
-  pub kept_stays : (t : ℕ) (b : Bool) → o.pivot ≡ t → b ≡ survived h o.side o.value → b ≡ step_kept h o t
-  unfolding step_kept
-  kept_stays t b e s = rw (eq-eqb o.pivot t e) s
+  pub kept_not : (b : Bool) → o.pivot ≡ t → b ≡ survived h o.side o.value → b ≡ false → None ≡ kept h o t
+  unfolding kept step_kept
+  kept_not b e s f = rw (eq-eqb o.pivot t e, ← s, f)
 
-  pub kept_fits : (t : ℕ) → step_kept h o t ≡ true → h.old - h.new ≤ o.value
-  unfolding step_kept
-  kept_fits t e = survived_fits h o.side o.value (and_r (eqb o.pivot t) (survived h o.side o.value) e)
+  pub kept_so : (b : Bool) → o.pivot ≡ t → b ≡ survived h o.side o.value → b ≡ true → Some (kept_cut h o) ≡ kept h o t
+  unfolding kept step_kept
+  kept_so b e s f = rw (eq-eqb o.pivot t e, ← s, f) refl
 
-  pub kept_whole : h.old ≤ h.new → record { side = o.side; value = o.value; anew = 0 } ≡ kept_cut h o
-  unfolding kept_cut
-  kept_whole l = let e : o.value - (h.old - h.new) ≡ o.value = omega arith in rw e refl
+pub ruleset keeping = (kept_moved, kept_not, kept_so)
 
-  pub kept_less : record { side = o.side; value = o.value - (h.old - h.new); anew = 0 } ≡ kept_cut h o
-  unfolding kept_cut
-  kept_less = refl
-
--- ---- a cut kept, or worked out
-module _ (net : Network) (h : Change) (o : OldStep) (s t : ℕ) (b : Bool) (e : b ≡ step_kept h o t) where
-  pub took_kept : b ≡ true → (x : StepCut) → x ≡ kept_cut h o → x ≡ taken net h o s t
-  unfolding taken
-  took_kept q x f = f ∙ rw (← e, q) refl
-
-  pub took_anew : b ≡ false → (c : Cut) → c ≡ least_cut_of net s t → record { side = c.side; value = c.value; anew = 1 } ≡ taken net h o s t
-  unfolding taken least_cut_of least_cut
-  took_anew q c f = rw (f, ← e, q) refl
+-- the cut of a step that is kept, or else worked out, is a rebuild's
+pub kept_gives : (net : Network) (h : Change) (steps : Steps) (s t : ℕ)
+    → kept_or_least net s t (kept h (step_of steps s) t) ≡ kept_or_least_by net (survived h) (h.old - h.new) steps s t
+unfolding kept step_kept kept_or_least_by kept_by
+kept_gives net h steps s t = go (eqb (at steps.pivot s) t && survived h (at steps.side s) (at steps.value s))
+  where
+    go : (b : Bool)
+        → kept_or_least net s t (pick b (Some (kept_cut h (step_of steps s))) None)
+        ≡ pick b (record { side = at steps.side s; value = at steps.value s - (h.old - h.new); anew = 0 }) (least_cut net s t)
+    go true = refl
+    go false = refl

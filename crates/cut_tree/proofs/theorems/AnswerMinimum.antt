@@ -3,7 +3,7 @@ use Rattle.std.specs.Prelude.{◌≡◌, ◌≢◌, Bool, true, false, ℕ, ◌�
 use Rattle.std.proofs.Math.Path.{refl}
 use Rattle.std.proofs.Common.{ap₂, ◌∙◌}
 use Rattle.std.proofs.Math.Bool.{not}
-use native.Mathlib.Omega.{arith}
+use Rattle.std.proofs.Common.{arith}
 use Rattle.base.proofs.laws.Bools.{bool1, differ_not}
 use Rattle.min_cut.specs.Cut.{Net, Side, cut_value, complement, Within}
 use Rattle.base.specs.Basics.{differ}

@@ -18,7 +18,7 @@ use Rattle.cut_tree.proofs.laws.RebuildLaws.{cut_anew, anew_le, pivot_moved}
 use Rattle.cut_tree.specs.KeepLemma.{SameNodes}
 use Rattle.cut_tree.proofs.theorems.KeepLemma.{keep_lemma, change_nodes, survives_loses}
 use Rattle.cut_tree.specs.declared.Steps.{Steps}
-use Rattle.cut_tree.specs.declared.StepCut.{StepCut}
+use Rattle.cut_tree.specs.Rule.{StepCut}
 use Rattle.cut_tree.specs.Rebuilds.{RightTest}
 
 -- ---- a rebuild by any test that is right

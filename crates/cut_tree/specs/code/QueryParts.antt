@@ -1,6 +1,7 @@
 -- What the contracts of the pair query's parts cite: its climbs, as the code goes. The query's own contract is
 -- `query_of`.
-use Rattle.std.specs.Prelude.{ℕ, zero, suc, ◌≤◌, ◌<◌, ◌≡◌, Bool, true, false, List, [], ◌∷◌, ltb, eqb}
+use Rattle.std.specs.Prelude.{ℕ, zero, suc, ◌≤◌, ◌<◌, ◌≡◌, ◌≢◌, Bool, true, false, List, [], ◌∷◌, Option, None, Some}
+use Rattle.std.specs.Prelude.{ltb, eqb}
 use Rattle.base.specs.Word.{holds}
 use Rattle.node_set.specs.Set.{added}
 use Rattle.base.specs.Basics.{pick, at}
@@ -25,16 +26,21 @@ unfoldable pub added_all : ℕ → List ℕ → ℕ
 added_all x [] = x
 added_all x (i ∷ is) = added_all (added x i) is
 
--- the lighter of best and i, the lower number where they are equal; i where there is none yet, which is 0
-unfoldable pub lighter : List ℕ → ℕ → ℕ → ℕ
-lighter weight best i =
+-- the lighter of best and i, the lower number where they are equal; i where there is none yet
+unfoldable pub lighter : List ℕ → Option ℕ → ℕ → ℕ
+lighter weight None i = i
+lighter weight (Some best) i =
     let lower = pick (ltb i best) i best in
     let other = pick (ltb (at weight best) (at weight i)) best lower in
-    pick (eqb best 0) i (pick (ltb (at weight i) (at weight best)) i other)
+    pick (ltb (at weight i) (at weight best)) i other
 
-unfoldable pub lightest_from : List ℕ → ℕ → List ℕ → ℕ
+unfoldable pub lightest_from : List ℕ → Option ℕ → List ℕ → Option ℕ
 lightest_from weight best [] = best
-lightest_from weight best (i ∷ is) = lightest_from weight (lighter weight best i) is
+lightest_from weight best (i ∷ is) = lightest_from weight (Some (lighter weight best i)) is
+
+-- what is found is a node
+abbrev pub IsNode : Option ℕ → Type 0
+IsNode best = (v : ℕ) → best ≡ Some v → v < max_nodes
 
 -- whether the nodes below i climb through v is known of the set x; a climb has come to j
 pub record Known (parent : List ℕ) (v x i left j : ℕ) : Type 0 where
@@ -48,9 +54,10 @@ abbrev pub added_if : Bool → ℕ → ℕ → ℕ
 added_if true x i = added x i
 added_if false x i = x
 
--- two of some nodes that all climb to node 0
+-- two different ones of some nodes that all climb to node 0
 pub record Pair (parent : List ℕ) (s t : ℕ) : Type 0 where
   pub count : ℕ
   pub climbs : Climbs count parent
   pub from : s < count
   pub to : t < count
+  pub apart : s ≢ t

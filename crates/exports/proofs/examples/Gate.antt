@@ -8,7 +8,7 @@ use Rattle.plan.proofs.examples.ResortA.{plan_a}
 use Rattle.gate_window.specs.Shown.{window_text}
 use Rattle.gate_window.proofs.examples.Evening.{half, refused, three}
 use Rattle.gate_window.proofs.laws.ReadingLaws.{not_read_lem, is_read}
-use Rattle.gate_window.specs.declared.Updated.{Updated}
+use Rattle.gate_window.specs.Reading.{Updated}
 use Rattle.gate_window.specs.declared.Window.{Window}
 use Rattle.exports.specs.Made.{pamzolit_reading, Promise, Held}
 use Rattle.exports.specs.Lent.{pamzolit_reset, reading_from, InTurn}

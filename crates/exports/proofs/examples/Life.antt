@@ -13,14 +13,14 @@ use Rattle.cut_tree.specs.Rule.{moved, stepped, rule_by, least_cut, rule}
 use Rattle.cut_tree.specs.Rebuild.{kept_by, kept_or_least_by, rebuilt_by, rebuilt}
 use Rattle.cut_tree.specs.Path.{reaches, climb, lightest_of, lightest_on, side_of, answer}
 use Rattle.cut_tree.specs.LightestEdge.{lightest_among}
-use Rattle.cut_tree.specs.declared.PairAnswer.TheVariants.{Found}
+use Rattle.cut_tree.specs.Path.{Found}
 use Rattle.plan.specs.Calls.{change_number, undo_number, altered, change_of, undo_of, pair_number, pair_of, preview_of}
 use Rattle.plan.proofs.examples.Replies.{short}
 use Rattle.plan.specs.Plan.{tree_fits, steps_fit, stack_fits, sound}
 use Rattle.plan.proofs.examples.ResortA.{plan_a}
 use Rattle.plan.specs.declared.HeadroomReply.{HeadroomReply}
 use Rattle.plan.specs.declared.Plan.{Plan}
-use Rattle.plan.specs.declared.PreviewReply.{PreviewReply}
+use Rattle.plan.specs.Calls.{PreviewReply}
 use Rattle.exports.specs.PairReply.{pair_reply}
 use Rattle.exports.specs.Made.{pamzolit_change, pamzolit_undo, pamzolit_pair, pamzolit_preview, pamzolit_headroom}
 use Rattle.exports.specs.Made.{Held}

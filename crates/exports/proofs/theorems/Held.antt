@@ -1,14 +1,12 @@
 -- What holds of the definitions of specs/Held.antt.
-use Rattle.std.specs.Prelude.{ℕ, zero, suc, ◌≡◌, refl, List, [], ◌∷◌, ◌++◌, length, take, ◌-ℤ◌}
-use Rattle.std.proofs.Common.{sym, subst, ◌∙◌}
-use Rattle.std.proofs.Math.Path.{ap}
-use Rattle.std.proofs.Math.IntN.{pos}
+use Rattle.std.specs.Prelude.{ℕ, zero, suc, ◌≡◌, refl, List, [], ◌∷◌, ◌++◌, length, take, pos, ◌-ℤ◌}
+use Rattle.std.proofs.Common.{sym, ap, subst, ◌∙◌}
 use Rattle.base.specs.Checks.{accepted}
 use Rattle.text.specs.Text.{text_of}
 use Rattle.cut_tree.specs.Path.{answer, number_of, weight_of}
 use Rattle.cut_tree.specs.Answer.{BothEnds}
-use Rattle.cut_tree.specs.declared.PairAnswer.{PairAnswer}
-use Rattle.cut_tree.specs.declared.PairAnswer.TheVariants.{Refused, Found}
+use Rattle.cut_tree.specs.Path.{PairAnswer}
+use Rattle.cut_tree.specs.Path.{Refused, Found}
 use Rattle.plan.proofs.theorems.BothEnds.{pair_both_ends}
 use Rattle.plan.proofs.laws.AnswersLaws.{headroom_found}
 use Rattle.plan.specs.Calls.{open_of, change_of, pair_number, pair_of, no_preview, preview_by, preview_of, write_of, written_to}
@@ -17,12 +15,12 @@ use Rattle.history.specs.Machine.{begin, state}
 use Rattle.plan.proofs.theorems.Numbers.{headroom_numbered, write_numbered}
 use Rattle.history.specs.Run.{Event, Run, calls_of, left, plan_after}
 use Rattle.history.proofs.theorems.Whole.{demand_3}
-use Rattle.plan.specs.declared.Changed.{Changed}
+use Rattle.plan.specs.Calls.{Changed}
 use Rattle.plan.specs.declared.HeadroomReply.{HeadroomReply}
-use Rattle.plan.specs.declared.Opening.{Opening}
+use Rattle.plan.specs.Calls.{Opening}
 use Rattle.plan.specs.declared.Plan.{Plan}
-use Rattle.plan.specs.declared.PreviewReply.{PreviewReply}
-use Rattle.plan.specs.declared.Written.{Written}
+use Rattle.plan.specs.Calls.{PreviewReply}
+use Rattle.plan.specs.Calls.{Written}
 use Rattle.exports.specs.Made.{Made, pamzolit_change, pamzolit_undo, pamzolit_pair, pamzolit_preview}
 use Rattle.exports.specs.Made.{pamzolit_flow, pamzolit_headroom, pamzolit_write, pamzolit_reading, Opened}
 use Rattle.exports.specs.Made.{Promise, plan_in, Held, holding, events_in, events}

@@ -13,7 +13,7 @@ use Rattle.gate_window.proofs.theorems.Numbers.{reading_accepted, reading_headro
 use Rattle.gate_window.specs.Run.{Run, left, BeginsWithReset}
 use Rattle.gate_window.specs.Claims.{Claims}
 use Rattle.gate_window.proofs.theorems.Whole.{window_claims}
-use Rattle.gate_window.specs.declared.Updated.{Updated}
+use Rattle.gate_window.specs.Reading.{Updated}
 use Rattle.gate_window.specs.declared.Window.{Window}
 use Rattle.gate_window.specs.declared.WindowReply.{WindowReply}
 use Rattle.exports.specs.Made.{Made, pamzolit_reading, Opened, Promise, Held, holding}

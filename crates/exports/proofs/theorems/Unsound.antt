@@ -6,17 +6,17 @@ use Rattle.base.specs.Basics.{every}
 use Rattle.base.specs.Conditions.{absent, single}
 use Rattle.network.specs.Refusals.{not_sound}
 use Rattle.network.specs.Network.{network_fits}
-use Rattle.cut_tree.specs.declared.PairAnswer.TheVariants.{Refused}
+use Rattle.cut_tree.specs.Path.{Refused}
 use Rattle.plan.specs.Calls.{open_of, no_preview, preview_of}
 use Rattle.plan.proofs.theorems.Numbers.{change_numbered, change_refused, undo_numbered, undo_refused}
 use Rattle.plan.proofs.theorems.Numbers.{pair_numbered, pair_refused, preview_numbered, preview_refused, flow_numbered}
 use Rattle.plan.proofs.theorems.Numbers.{headroom_numbered, write_numbered, opening_refused}
 use Rattle.plan.specs.Plan.{sound, no_plan}
-use Rattle.plan.specs.declared.Changed.{Changed}
-use Rattle.plan.specs.declared.Opening.{Opening}
+use Rattle.plan.specs.Calls.{Changed}
+use Rattle.plan.specs.Calls.{Opening}
 use Rattle.plan.specs.declared.Plan.{Plan}
-use Rattle.plan.specs.declared.PreviewReply.{PreviewReply}
-use Rattle.plan.specs.declared.Written.{Written}
+use Rattle.plan.specs.Calls.{PreviewReply}
+use Rattle.plan.specs.Calls.{Written}
 use Rattle.gate_window.proofs.theorems.Numbers.{reading_numbered}
 use Rattle.exports.specs.PairReply.{pair_reply}
 use Rattle.exports.specs.Made.{Made, pamzolit_change, pamzolit_undo, pamzolit_pair, pamzolit_preview}

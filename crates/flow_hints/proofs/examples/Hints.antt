@@ -1,19 +1,14 @@
 -- Worked examples, by evaluation: the hints and the table of resort A (docs/SCOPE.md, 10), what is noted in them, and
 -- rings.
-use Rattle.std.specs.Prelude.{◌≡◌, refl, true, false, List, [], ◌∷◌, ℕ, ◌+◌, ◌*◌, take, drop, set, replicate}
+use Rattle.std.specs.Prelude.{◌≡◌, refl, true, false, List, [], ◌∷◌, ℕ, take, drop, set}
 use Rattle.base.specs.Word.{holds}
 use Rattle.base.specs.Basics.{at}
 use Rattle.network.proofs.examples.Networks.{resort_a}
-use Rattle.network.specs.Limits.{max_nodes, max_arcs}
 use Rattle.node_set.specs.Set.{added, removed, union, intersection}
-use Rattle.flow_hints.specs.code.Hints.{no_hints, into, ring, between, behind, way_noted, shut_noted, sent_noted}
+use Rattle.flow_hints.specs.code.Hints.{no_hints, no_arcs, into, ring, between, behind, way_noted, shut_noted, sent_noted}
 use Rattle.flow_hints.specs.code.Hints.{short_noted}
 use Rattle.flow_hints.specs.code.Hints.{hints_up_to, start_hints, table_up_to, table_filled, arc_of, arc_put, has_room}
 use Rattle.flow_hints.specs.code.Hints.{leads_to, leading_below, leading_to}
-
--- an empty table
-abbrev no_arcs : List ℕ
-no_arcs = replicate (max_nodes * max_nodes + max_arcs) 0
 
 -- at first each node leads to its neighbours, and these lead to it
 abbrev neighbours : List ℕ

@@ -1,19 +1,20 @@
 -- Laws of the nodes that lead to a ring, as a loop gathers them: the lowest node of the ring that is left comes next.
-use Rattle.std.specs.Prelude.{◌≡◌, Bool, true, false, List, ltb}
-use Rattle.std.proofs.Math.Path.{refl}
-use Rattle.std.proofs.Common.{sym, ap, ◌∙◌, true≢false, pow_pos, eqb-true, ltb-true, ltb-false}
-use Prim.Native.Nat.{ℕ, zero, suc, ◌+◌, ◌-◌, ◌*◌, ◌/◌, ◌%◌, ◌^◌, ◌≤◌, ◌<◌}
+use Rattle.std.proofs.Common.{◌≡◌, Bool, true, false, List, ltb, refl, sym, ap, ◌∙◌, true≢false, pow_pos, arith}
+use Rattle.std.proofs.Common.{eqb-true, ltb-true, ltb-false, ℕ, zero, suc, ◌+◌, ◌-◌, ◌*◌, ◌/◌, ◌%◌, ◌^◌, ◌≤◌, ◌<◌}
 use Rattle.std.proofs.Math.Decide.{ℕ_discrete}
-use native.Mathlib.Omega.{arith}
 use Rattle.std.specs.Int.Bits.{bit_and, and_self, and_step}
 use Rattle.std.proofs.lemmas.Bool.{eqb-false}
 use Rattle.base.proofs.laws.WordLaws.{holds_zero}
 use Rattle.base.specs.Word.{holds}
 use Rattle.base.specs.Basics.{at}
 use Rattle.network.specs.Limits.{max_nodes}
+use Rattle.network.proofs.laws.NetworkLaws.{links_le, link_places}
 use Rattle.node_set.specs.Set.{removed, union, Lowest}
 use Rattle.node_set.proofs.theorems.Members.{removed_same, removed_other, removed_sum}
 use Rattle.flow_hints.specs.code.Hints.{into, leading_below, leading_to}
+
+-- the places of a link and of its ends, for the loops over the links
+pub ruleset places = (links_le, link_places)
 
 -- ---- a word and one less than it have in common what is left without the lowest node
 cleared_sum : (r x : ℕ) → holds x r ≡ true → ((j : ℕ) → j < r → holds x j ≡ false) → bit_and x (x - 1) + 2 ^ r ≡ x

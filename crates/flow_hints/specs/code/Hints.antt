@@ -24,6 +24,9 @@ between u x = max_nodes * u + x
 abbrev pub behind : ℕ → ℕ
 behind j = max_nodes * max_nodes + j
 
+abbrev pub no_arcs : List ℕ
+no_arcs = replicate (max_nodes * max_nodes + max_arcs) 0
+
 -- ---- what is noted
 -- a node more in one of the sets, or less
 abbrev pub with_node : List ℕ → (i v : ℕ) → List ℕ
@@ -82,9 +85,13 @@ table_filled net table = table_up_to net table net.links
 abbrev pub arc_of : ℕ → ℕ
 arc_of x = (x + (max_arcs - 1)) % max_arcs
 
+-- what may still be sent along arc j
+abbrev pub room_of : List (List ℕ) → ℕ → ℕ
+room_of residual j = get_or (get_or residual (j / 2) []) (j % 2) 0
+
 -- whether arc j has room
 abbrev pub has_room : List (List ℕ) → ℕ → Bool
-has_room residual j = ltb 0 (get_or (get_or residual (j / 2) []) (j % 2) 0)
+has_room residual j = ltb 0 (room_of residual j)
 
 -- the nodes of ring l to which u leads
 abbrev pub leads_to : List ℕ → (u l : ℕ) → ℕ

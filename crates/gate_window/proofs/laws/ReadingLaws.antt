@@ -1,16 +1,19 @@
 -- A reading by value: one law for each way through the code.
-use Rattle.std.specs.Prelude.{ℕ, zero, suc, ◌+◌, ◌≤◌, ◌<◌, ◌≡◌, ◌≢◌, Bool, true, false, not, [], ◌∷◌, ltb, ℤ}
-use Rattle.std.proofs.Math.Path.{refl, ap}
-use Rattle.std.proofs.Common.{sym, ap₂, ◌∙◌, arith, lt-ltb, le-ltb, SFits, to_z, of_z, to_z-of_z}
+use Rattle.std.specs.Prelude.{ℕ, zero, suc, ◌+◌, ◌≤◌, ◌<◌, ◌≡◌, ◌≢◌, Bool, true, false, not, [], ◌∷◌, ltb, ℤ, Ok, Err}
+use Rattle.std.proofs.Common.{refl, sym, ap, ap₂, ◌∙◌, arith, lt-ltb, le-ltb, SFits, to_z, of_z, to_z-of_z}
 use Rattle.std.specs.Int.Signed.{lt_z}
 use Rattle.std.specs.Int.{w32}
 use Rattle.base.specs.Basics.{pick}
 use Rattle.base.specs.Checks.{row, check, accepted}
 use Rattle.base.proofs.laws.ChecksLaws.{positive, chain_on}
-use Rattle.network.specs.Refusals.{too_many_readings}
+use Rattle.network.specs.Refusals.{refusal_number, too_many_readings}
+use Rattle.network.specs.declared.refusals.Refusal.{Refusal}
+use Rattle.network.proofs.laws.RefusalLaws.{refusal_some}
 use Rattle.plan.specs.Calls.{headroom_rows, headroom_number, headroom_of}
 use Rattle.plan.proofs.theorems.Numbers.{headroom_is}
 use Rattle.plan.specs.declared.Plan.{Plan}
+use Rattle.plan.specs.Results.{as_headroom}
+use Rattle.plan.specs.declared.HeadroomFound.{HeadroomFound}
 use Rattle.plan.specs.declared.HeadroomReply.{HeadroomReply}
 use Rattle.gate_window.specs.Reading.{max_readings, reading_number, lowest_by, noted, read, not_read, reading_of}
 use Rattle.gate_window.specs.declared.Window.{Window}
@@ -20,26 +23,6 @@ abbrev pub back : ℤ → ℤ
 back z = to_z w32 (of_z w32 z)
 
 -- ---- the lowest
-module _ (n : ℕ) (lowest z : ℤ) (f : SFits w32 lowest) (g : SFits w32 z) where
-  pub lowest_first : n ≡ 0 → back z ≡ lowest_by n lowest z
-  lowest_first e = rw e (to_z-of_z g)
-
-  later : n ≢ 0 → (b : Bool) → lt_z (back z) (back lowest) ≡ b → lowest_by n lowest z ≡ pick b z lowest
-  later d b e = go n d
-    where
-      test : lt_z z lowest ≡ b
-      test = sym (ap₂ lt_z (to_z-of_z g) (to_z-of_z f)) ∙ e
-
-      go : (n : ℕ) → n ≢ 0 → lowest_by n lowest z ≡ pick b z lowest
-      go zero d = absurd (d refl)
-      go (suc n) d = ap (λ (b : Bool). pick b z lowest) test
-
-  pub lowest_less : n ≢ 0 → lt_z (back z) (back lowest) ≡ true → back z ≡ lowest_by n lowest z
-  lowest_less d e = to_z-of_z g ∙ sym (later d true e)
-
-  pub lowest_stays : n ≢ 0 → lt_z (back z) (back lowest) ≡ false → back lowest ≡ lowest_by n lowest z
-  lowest_stays d e = to_z-of_z f ∙ sym (later d false e)
-
 lowest_fits : (n : ℕ) (lowest z : ℤ) → SFits w32 lowest → SFits w32 z → SFits w32 (lowest_by n lowest z)
 lowest_fits zero lowest z f g = g
 lowest_fits (suc n) lowest z f g = go (lt_z z lowest)
@@ -94,3 +77,16 @@ module _ (p : Plan) (s t demand : ℕ) (h : HeadroomReply) (is : h ≡ headroom_
 
     pub is_read : h.number ≡ 0 → w.count < max_readings → read w h.value ≡ reading_of p w s t demand
     is_read z l = sym (found ∙ rw (z, lt-ltb w.count max_readings l))
+
+-- ---- by the headroom's result
+module _ (p : Plan) (s t demand : ℕ) (w : Window) where
+  pub refused_is : (e : Refusal) → as_headroom (Err e) ≡ headroom_of p s t demand
+      → not_read w (refusal_number e) ≡ reading_of p w s t demand
+  refused_is e is = not_read_lem p s t demand (as_headroom (Err e)) is w (refusal_some e)
+
+  module _ (h : HeadroomFound) (is : as_headroom (Ok h) ≡ headroom_of p s t demand) where
+    pub full_is : max_readings ≤ w.count → not_read w too_many_readings ≡ reading_of p w s t demand
+    full_is l = full p s t demand (as_headroom (Ok h)) is w refl l
+
+    pub read_is : w.count < max_readings → read w h.value ≡ reading_of p w s t demand
+    read_is l = is_read p s t demand (as_headroom (Ok h)) is w refl l

@@ -1,8 +1,7 @@
 -- By induction over the list: what the machine keeps, and the record that tells it.
-use Prim.Native.Nat.{ℕ, zero, suc, ◌≤◌, ◌<◌}
-use Rattle.std.specs.Prelude.{◌≡◌, refl, ◌≢◌, Bool, true, false, not, List, [], ◌∷◌, length, T, ℤ, pos, negsuc, ◌≤ℤ◌, ◌<ℤ◌}
-use Rattle.std.proofs.Common.{sym, ap, ap₂, ◌∙◌, inl, inr, arith, ltb→lt, le→leb}
-use Rattle.std.proofs.Math.Path.{subst}
+use Rattle.std.specs.Prelude.{ℕ, zero, suc, ◌<◌, ◌≡◌, refl, ◌≢◌, Bool, true, false, not, List, [], ◌∷◌, length, T}
+use Rattle.std.specs.Prelude.{ℤ, pos, negsuc, ◌≤ℤ◌, ◌<ℤ◌}
+use Rattle.std.proofs.Common.{sym, ap, ap₂, ◌∙◌, inl, inr, subst, arith, ltb→lt, le→leb}
 use Rattle.std.specs.Int.Signed.{lt_z, lt_z_no, lt_z_yes, le_z_yes, ≤ℤ_refl, <ℤ-≤ℤ_trans}
 use Rattle.base.specs.Basics.{pick}
 use Rattle.base.specs.Checks.{accepted}
@@ -16,7 +15,7 @@ use Rattle.gate_window.specs.Machine.{next, kept, numbers}
 use Rattle.gate_window.specs.Claims.{OneOf, Tells, Right, Unaltered, AtCall, Replies, Claims}
 use Rattle.gate_window.specs.declared.Window.{Window}
 use Rattle.gate_window.specs.declared.WindowReply.{WindowReply}
-use Rattle.gate_window.specs.declared.Updated.{Updated}
+use Rattle.gate_window.specs.Reading.{Updated}
 
 lt_le : (a b : ℤ) → a <ℤ b → a ≤ℤ b
 lt_le (pos a) (pos b) h = le_z_yes (le→leb a b (omega (arith, ltb→lt a b h.lt)))

@@ -1,9 +1,7 @@
 -- The window's characters, one law for each way through the code, and what they are in each part of the range.
 use Rattle.std.specs.Prelude.{ℕ, suc, ◌+◌, ◌/◌, ◌%◌, ◌≤◌, ◌<◌, ◌≡◌, refl, Bool, true, List, [], ◌∷◌, ◌++◌, length, drop}
-use Rattle.std.specs.Prelude.{ℤ, pos, negsuc, ltb}
-use Rattle.std.proofs.Math.Path.{sym}
-use Rattle.std.proofs.Common.{ap, ◌∙◌, arith, drop_of_length-le, drop-cons, ltb-true, ltb-false, SFits, to_z, of_z, to_z-of_z}
-use Rattle.std.proofs.Math.Bool.{false}
+use Rattle.std.specs.Prelude.{false, ℤ, pos, negsuc, ltb}
+use Rattle.std.proofs.Common.{sym, ap, ◌∙◌, arith, drop_of_length-le, drop-cons, ltb-true, ltb-false, SFits, to_z, of_z, to_z-of_z}
 use Rattle.std.specs.Int.Signed.{lt_z}
 use Rattle.std.specs.Int.{w32}
 use Rattle.base.specs.Basics.{at}

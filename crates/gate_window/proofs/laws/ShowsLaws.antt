@@ -1,6 +1,6 @@
 -- What the window tells, in each part of the range.
 use Rattle.std.specs.Prelude.{ℕ, suc, ◌+◌, ◌-◌, ◌*◌, ◌/◌, ◌%◌, ◌<◌, ◌≡◌, refl, ◌≢◌, ◌↔◌, Bool, true, false, List, []}
-use Rattle.std.specs.Prelude.{◌∷◌, length, replicate, T, ltb, ℤ, pos, negsuc, neg_ℤ, ◌<ℤ◌}
+use Rattle.std.specs.Prelude.{◌∷◌, length, replicate, T, ℤ, pos, negsuc, neg_ℤ, ◌<ℤ◌}
 use Rattle.std.proofs.Common.{sym, ap, subst, ◌∙◌, true≢false, arith, ltb→lt, ne_eqb, le-ltb}
 use Rattle.std.specs.Int.Signed.{lt_z, lt_z_yes, clash_ℤ}
 use Rattle.base.specs.Basics.{at}

@@ -1,7 +1,6 @@
 -- What holds of the definitions of specs/Numbers.antt.
 use Rattle.std.specs.Prelude.{ℕ, zero, suc, ◌≡◌, ◌≢◌, replicate}
-use Rattle.std.proofs.Math.Path.{refl, ap}
-use Rattle.std.proofs.Common.{sym, ◌∙◌, arith}
+use Rattle.std.proofs.Common.{refl, sym, ap, ◌∙◌, arith}
 use Rattle.base.specs.Checks.{accepted}
 use Rattle.base.specs.Conditions.{Numbered}
 use Rattle.base.proofs.laws.ChecksLaws.{positive, numbered, number_kept, refused_by}
@@ -11,7 +10,7 @@ use Rattle.gate_window.specs.Shown.{window_width}
 use Rattle.gate_window.specs.Reading.{reading_number, read, not_read, reading_of}
 use Rattle.gate_window.proofs.laws.ReadingLaws.{not_read_lem}
 use Rattle.gate_window.specs.declared.Window.{Window}
-use Rattle.gate_window.specs.declared.Updated.{Updated}
+use Rattle.gate_window.specs.Reading.{Updated}
 use Rattle.gate_window.specs.Numbers.{reading_table}
 
 module _ (p : Plan) (w : Window) (s t demand : ℕ) where

@@ -13,14 +13,14 @@ use Rattle.cut_tree.specs.Rule.{moved, stepped, rule_by, least_cut, rule}
 use Rattle.cut_tree.specs.Rebuild.{kept_by, kept_or_least_by, rebuilt_by, rebuilt}
 use Rattle.cut_tree.specs.Path.{reaches, climb, lightest_of, lightest_on, side_of, answer}
 use Rattle.cut_tree.specs.LightestEdge.{lightest_among}
-use Rattle.cut_tree.specs.declared.PairAnswer.{PairAnswer}
-use Rattle.cut_tree.specs.declared.PairAnswer.TheVariants.{Refused, Found}
+use Rattle.cut_tree.specs.Path.{PairAnswer}
+use Rattle.cut_tree.specs.Path.{Refused, Found}
 use Rattle.plan.specs.Plan.{tree_fits, steps_fit, stack_fits, sound}
 use Rattle.text.specs.Text.{digits, text_width, right_aligned, text_of}
 use Rattle.plan.specs.Calls.{open_of, change_number, undo_number, altered, change_of, undo_of, pair_number, pair_of, preview_of}
 use Rattle.plan.proofs.examples.ResortA.{resort_a}
 use Rattle.plan.specs.declared.Plan.{Plan}
-use Rattle.plan.specs.declared.Changed.{Changed}
+use Rattle.plan.specs.Calls.{Changed}
 
 -- link k to capacity c; an undo
 pub data Alter : Type 0 where

@@ -18,7 +18,7 @@ use Rattle.history.proofs.theorems.AsIfAbsent.{as_if_absent}
 use Rattle.plan.proofs.examples.ResortA.{resort_a, plan_a, opening_A}
 use Rattle.history.proofs.examples.FlowA.{eight, eight_lawful, eight_total}
 use Rattle.plan.specs.declared.Plan.{Plan}
-use Rattle.plan.specs.declared.Opening.{Opening}
+use Rattle.plan.specs.Calls.{Opening}
 
 -- a flow call that is accepted, and one whose buffer is too short
 abbrev filled : FlowReply

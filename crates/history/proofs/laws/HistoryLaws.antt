@@ -19,8 +19,8 @@ use Rattle.cut_tree.specs.Rule.{rule}
 use Rattle.cut_tree.proofs.theorems.Rebuilds.{rebuilt_tree}
 use Rattle.cut_tree.specs.Path.{pair_rows, answer, number_of, weight_of}
 use Rattle.cut_tree.proofs.theorems.AnswerMinimum.{answer_minimum, answer_lightest, answer_weight}
-use Rattle.cut_tree.specs.declared.PairAnswer.{PairAnswer}
-use Rattle.cut_tree.specs.declared.PairAnswer.TheVariants.{Refused}
+use Rattle.cut_tree.specs.Path.{PairAnswer}
+use Rattle.cut_tree.specs.Path.{Refused}
 use Rattle.plan.specs.Plan.{max_depth, push}
 use Rattle.plan.specs.Calls.{change_number, undo_number, altered, unaltered, changed, undone, change_of, undo_of, pair_number, pair_of}
 use Rattle.plan.specs.Calls.{no_preview, preview_number, preview_of, flow_number}
@@ -33,8 +33,8 @@ use Rattle.history.proofs.laws.StackLaws.{stack_depth, top_link, top_capacity, p
 use Rattle.history.proofs.laws.MachineLaws.{pair_ok, change_ok, refused_next, accepted_next, ask_next}
 use Rattle.history.proofs.laws.PlanAt.{plan_at, Good, sound_at, set_within, altered_plan, altered_count}
 use Rattle.plan.specs.declared.Stack.{Stack}
-use Rattle.plan.specs.declared.Changed.{Changed}
-use Rattle.plan.specs.declared.PreviewReply.{PreviewReply}
+use Rattle.plan.specs.Calls.{Changed}
+use Rattle.plan.specs.Calls.{PreviewReply}
 
 module _ (net : Network) where
   -- the network of a state, and the answer from the rule's tree on it

@@ -34,7 +34,7 @@ use Rattle.history.proofs.laws.PlanAt.{plan_at, Good, sound_at}
 use Rattle.history.proofs.laws.HistoryLaws.{agrees_at, pair_right, flow_replied, step}
 use Rattle.history.proofs.laws.Standing.{stood}
 use Rattle.plan.specs.declared.Plan.{Plan}
-use Rattle.plan.specs.declared.Opening.{Opening}
+use Rattle.plan.specs.Calls.{Opening}
 use Rattle.base.proofs.laws.BlankLaws.{blank_is}
 
 module _ (net : Network) where

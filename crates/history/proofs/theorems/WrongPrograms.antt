@@ -22,7 +22,7 @@ use Rattle.cut_tree.specs.LightestEdge.{lightest_among}
 use Rattle.cut_tree.specs.Definition1.{CutTree}
 use Rattle.cut_tree.specs.declared.Edge.{Edge}
 use Rattle.cut_tree.specs.declared.Tree.{Tree}
-use Rattle.cut_tree.specs.declared.PairAnswer.{PairAnswer}
+use Rattle.cut_tree.specs.Path.{PairAnswer}
 use Rattle.plan.specs.Plan.{max_depth, tree_fits, steps_fit, stack_fits, sound}
 use Rattle.plan.specs.Calls.{open_of, change_number, altered, change_of, pair_number, pair_of, flow_number, write_number}
 use Rattle.plan.specs.Calls.{write_of, written_to}
@@ -33,9 +33,9 @@ use Rattle.history.proofs.theorems.Whole.{opens_every_network}
 use Rattle.plan.proofs.examples.ResortA.{resort_a, network_a, plan_a, opening_A}
 use Rattle.history.proofs.examples.FlowA.{eight, eight_lawful, eight_total}
 use Rattle.plan.specs.declared.Plan.{Plan}
-use Rattle.plan.specs.declared.Opening.{Opening}
-use Rattle.plan.specs.declared.Changed.{Changed}
-use Rattle.plan.specs.declared.PreviewReply.{PreviewReply}
+use Rattle.plan.specs.Calls.{Opening}
+use Rattle.plan.specs.Calls.{Changed}
+use Rattle.plan.specs.Calls.{PreviewReply}
 use Rattle.history.specs.WrongPrograms.{asking, changing, leaving_the_edge, stacking, star_a, twice, works_once}
 
 -- the fresh plan has all parents 0, where resort A's tree has parent 2

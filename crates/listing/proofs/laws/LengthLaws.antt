@@ -8,7 +8,7 @@ use Rattle.network.specs.Limits.{max_nodes}
 use Rattle.network.proofs.laws.NetworkLaws.{nodes_le}
 use Rattle.network_file.specs.Reading.{read_file}
 use Rattle.network_file.proofs.laws.FileLaws.{accepts}
-use Rattle.network_file.specs.declared.Reading.{Reading}
+use Rattle.network_file.specs.Reading.{Reading}
 use Rattle.text.specs.Text.{decimal}
 use Rattle.text.proofs.laws.TextLaws.{decimal_length, decimal_one, decimal_more}
 use Rattle.cut_tree.specs.Path.{weight_of, side_in}
@@ -16,7 +16,7 @@ use Rattle.cut_tree.specs.declared.Tree.{Tree}
 use Rattle.plan.specs.Plan.{no_plan}
 use Rattle.plan.specs.Calls.{fresh, opened, open_of, pair_of}
 use Rattle.plan.specs.declared.Plan.{Plan}
-use Rattle.plan.specs.declared.Opening.{Opening}
+use Rattle.plan.specs.Calls.{Opening}
 use Rattle.listing.specs.Listing.{decimals_of, tree_line, tree_lines, pair_line, pairs_of, pair_lines, plan_lines}
 use Rattle.listing.specs.Listing.{refused_line, listing_of, max_digits, max_line, max_listing}
 

@@ -4,7 +4,7 @@ use Rattle.std.proofs.Common.{ap, subst, arith, add-one, length-append}
 use Rattle.std.proofs.Math.Decide.{ℕ_discrete}
 use Rattle.cut_tree.specs.Path.{weight_of, side_in}
 use Rattle.cut_tree.specs.declared.Tree.{Tree}
-use Rattle.cut_tree.specs.declared.PairAnswer.{PairAnswer}
+use Rattle.cut_tree.specs.Path.{PairAnswer}
 use Rattle.plan.specs.Calls.{pair_of}
 use Rattle.plan.specs.declared.Plan.{Plan}
 use Rattle.listing.specs.Listing.{line_of, pair_word, tree_line, tree_lines, pair_line, pairs_of, pair_lines, plan_lines}

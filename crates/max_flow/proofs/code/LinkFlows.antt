@@ -1,11 +1,7 @@
 -- What holds of the definitions of specs/code/LinkFlows.antt.
-use Rattle.std.specs.Prelude.{◌≡◌, List, ℤ, pos, ◌-ℤ◌, set, length}
-use Rattle.std.proofs.Math.Path.{refl}
-use Rattle.std.proofs.Common.{ap, ◌∙◌, arith, get_or-set_same}
-use Prim.Native.Nat.{ℕ, zero, suc, ◌<◌, ◌≤◌}
+use Rattle.std.proofs.Common.{◌≡◌, List, ℤ, pos, ◌-ℤ◌, set, length, refl, ap, ◌∙◌, arith, get_or-set_same, ℕ, zero}
+use Rattle.std.proofs.Common.{suc, ◌<◌, ◌≤◌, length-set, get_or-set_other}
 use Rattle.std.proofs.Math.Decide.{ℕ_discrete}
-use Rattle.std.proofs.Math.ListN.{length-set}
-use Rattle.std.proofs.Math.Seq.{get_or-set_other}
 use Rattle.min_cut.proofs.laws.LawfulLaws.{lawful_same, total_same}
 use Rattle.base.specs.Basics.{at}
 use Rattle.network.specs.Network.{graph, min_cut_value, flow_at}

@@ -1,6 +1,5 @@
 -- What holds of the definitions of specs/code/Push.antt.
-use Rattle.std.specs.Prelude.{◌≡◌, refl, ◌≢◌, List, ℕ, ◌-◌, ◌<◌, ◌≤◌}
-use Rattle.std.proofs.Common.{sym, ap, ◌∙◌, arith}
+use Rattle.std.proofs.Common.{◌≡◌, refl, ◌≢◌, List, ℕ, ◌-◌, ◌<◌, ◌≤◌, sym, ap, ◌∙◌, arith}
 use Rattle.min_cut.specs.code.Residual.{Pushed}
 use Rattle.min_cut.specs.code.Arcs.{tip}
 use Rattle.base.specs.Basics.{at}

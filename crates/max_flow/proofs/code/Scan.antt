@@ -1,6 +1,6 @@
 -- What holds of the definitions of specs/code/Scan.antt.
-use Rattle.std.specs.Prelude.{◌≡◌, refl, true, false, List, [], ℕ, ◌+◌, ◌-◌, ◌*◌, ◌/◌, ◌%◌, ◌<◌, ◌≤◌, get_or}
-use Rattle.std.proofs.Common.{sym, ap, subst, ◌∙◌, true≢false, arith}
+use Rattle.std.proofs.Common.{◌≡◌, refl, true, false, List, [], ℕ, ◌+◌, ◌-◌, ◌*◌, ◌/◌, ◌%◌, ◌<◌, ◌≤◌, get_or, sym, ap}
+use Rattle.std.proofs.Common.{subst, ◌∙◌, true≢false, arith}
 use Rattle.std.proofs.Math.Decide.{ℕ_discrete, dec_lt}
 use Rattle.base.specs.Word.{holds}
 use Rattle.min_cut.specs.code.Arcs.{tail, tip}
@@ -11,6 +11,7 @@ use Rattle.network.specs.code.Incidence.{Chains, Leaves}
 use Rattle.network.specs.declared.Network.{Network}
 use Rattle.node_set.specs.Set.{empty, added}
 use Rattle.node_set.proofs.theorems.Members.{holds_empty, added_same, added_other}
+use Rattle.max_flow.specs.LeastCut.{Endpoints}
 use Rattle.max_flow.specs.code.Residuals.{room_on}
 use Rattle.max_flow.proofs.laws.ResidualLaws.{spare_read}
 use Rattle.max_flow.specs.code.Search.{seed_of, Ready, Searched}
@@ -18,6 +19,10 @@ use Rattle.max_flow.proofs.laws.SearchLaws.{Visited, visited_old, visited_new}
 use Rattle.max_flow.proofs.laws.SearchLaws.{seed_tree, inside, place_lt, node_lt, free, tip_lt}
 use Rattle.max_flow.specs.declared.search.SearchTree.{SearchTree}
 use Rattle.max_flow.specs.code.Scan.{Done, Fresh, Inner, Looking, Outer, Placed}
+
+pub ready : {net : Network} {first next to : List ℕ} {s t : ℕ} → Endpoints net s t → Chains net (2 * net.links) first next to
+    → Ready net first next to s t
+ready e c = record { ends = e; chains = c }
 
 module _ {net : Network} {first next to : List ℕ} {s t : ℕ} (a : Ready net first next to s t) where
   h : network_fits net ≡ true

@@ -1,11 +1,7 @@
 -- What holds of the definitions of specs/code/Send.antt.
-use Rattle.std.specs.Prelude.{◌≡◌, ◌≢◌, Bool, List, ℕ, ◌+◌, ◌-◌, ◌*◌, ◌/◌, ◌%◌, ◌<◌, ◌≤◌}
-use Rattle.std.proofs.Math.Path.{refl}
-use Rattle.std.proofs.Common.{sym, ap, ◌∙◌, true≢false, arith}
-use Rattle.std.proofs.Math.Bool.{true, false, cond}
+use Rattle.std.proofs.Common.{◌≡◌, ◌≢◌, Bool, List, ℕ, ◌+◌, ◌-◌, ◌*◌, ◌/◌, ◌%◌, ◌<◌, ◌≤◌, min, refl, sym, ap, ◌∙◌}
+use Rattle.std.proofs.Common.{true≢false, arith, true, false, cond, eq-eqb, ne_eqb, leb-true, leb-false, leb}
 use Rattle.std.proofs.Math.Decide.{ℕ_discrete}
-use borrow.Author.Tests.{eq-eqb, ne_eqb, leb-true, leb-false}
-use Rattle.std.proofs.Math.Dec.{leb}
 use Rattle.min_cut.specs.Cut.{Net}
 use Rattle.base.specs.Word.{holds}
 use Rattle.min_cut.specs.code.Residual.{Pushed}
@@ -14,14 +10,14 @@ use Rattle.min_cut.specs.code.Arcs.{tail, tip, spare, forward}
 use Rattle.base.specs.Basics.{at}
 use Rattle.network.specs.Limits.{max_arcs}
 use Rattle.network.specs.Network.{network_fits, graph}
+use Rattle.network.specs.code.Incidence.{Chains}
 use Rattle.network.specs.declared.Network.{Network}
 use Rattle.node_set.specs.Set.{added}
 use Rattle.node_set.proofs.theorems.Members.{added_same, added_keeps}
 use Rattle.max_flow.specs.GrowingFlow.{ahead, back}
-use Rattle.max_flow.specs.code.Residuals.{lesser_of, room_on, sent_along, Balanced, Along, Flowing}
-use Rattle.max_flow.proofs.laws.ResidualLaws.{lesser_fits, along_pushed, along_balanced, along_other}
+use Rattle.max_flow.specs.code.Residuals.{room_on, sent_along, Balanced, Along}
+use Rattle.max_flow.proofs.laws.ResidualLaws.{along_pushed, along_balanced, along_other}
 use Rattle.max_flow.proofs.laws.GrowthLaws.{sent_by}
-use Rattle.max_flow.specs.code.Search.{Ready}
 use Rattle.max_flow.specs.code.Send.{Consistent, Sends, Way, other_way}
 
 -- ---- the test of an arc
@@ -48,6 +44,10 @@ back_tip G j = go (ℕ_discrete (j % 2) 0)
         let o : other_way j % 2 ≡ 0 = omega arith in
         rw (h, eq-eqb (other_way j % 2) 0 o, ne_eqb (j % 2) 0 q)
 
+pub consistent : {net : Network} {first next to : List ℕ} {r : List (List ℕ)} → network_fits net ≡ true
+    → Chains net (2 * net.links) first next to → Balanced net r → Consistent net to r
+consistent f c b = record { fits = f; leads = c.leads; balanced = b }
+
 module _ {net : Network} {to : List ℕ} {r : List (List ℕ)} (a : Consistent net to r) where
   -- what has room is an arc of the network
   arc_here : (j : ℕ) → j < max_arcs → 0 < room_on r j → j < 2 * net.links
@@ -73,11 +73,6 @@ module _ {net : Network} {to : List ℕ} {r : List (List ℕ)} (a : Consistent n
         off = off;
         fits = omega (arith, e);
       }
-
--- what is left after a call
-pub consistent_next : {net : Network} {to : List ℕ} {t on u limit d : ℕ} {r r' : List (List ℕ)} → Consistent net to r
-    → Sends net t on u limit d r r' → Consistent net to r'
-consistent_next a o = record { fits = a.fits; leads = a.leads; balanced = o.sent.balanced }
 
 -- ---- what is sent
 -- at t itself
@@ -110,16 +105,13 @@ module _ {net : Network} {t on u : ℕ} where
 
   -- by arc j to x, and on from there
   module _ {x j spare want d on' : ℕ} {r r1 : List (List ℕ)} (limit : ℕ) (f : network_fits net ≡ true)
-      (b : Balanced net r) (y : 0 < spare → Way net r on u x j spare) (e : want ≡ lesser_of spare limit) (p : want ≢ 0)
+      (b : Balanced net r) (y : 0 < spare → Way net r on u x j spare) (e : want ≡ min spare limit) (p : want ≢ 0)
       (q : on' ≡ added on x) (a : Sends net t on' x want d r r1) where
-    lesser : (lesser_of spare limit ≤ spare) × (lesser_of spare limit ≤ limit)
-    lesser = ((lesser_fits spare limit).0, (lesser_fits spare limit).1)
-
     w : Way net r on u x j spare
-    w = y (omega (arith, lesser.0, e, p))
+    w = y (omega (arith, e, p))
 
     dl : d ≤ room_on r1 j
-    dl = omega (arith, a.within, e, lesser.0, w.fits, a.kept j (rw (q, w.leads) (added_same on x)))
+    dl = omega (arith, a.within, e, w.fits, a.kept j (rw (q, w.leads) (added_same on x)))
 
     pub send_along : Along net r1 j d
     send_along = record { fits = f; balanced = a.sent.balanced; here = w.here; spare = dl }
@@ -133,7 +125,7 @@ module _ {net : Network} {t on u : ℕ} where
     pub send_way : Sends net t on u limit d r (sent_along r1 j d)
     send_way =
         record {
-          within = omega (arith, a.within, e, lesser.1);
+          within = omega (arith, a.within, e);
           sent = sent_by b (along_balanced send_along) (λ X. omega (arith, a.sent.pushed X, one X));
           kept = λ i h.
               omega (
@@ -142,11 +134,3 @@ module _ {net : Network} {t on u : ℕ} where
                 along_other send_along i (apart i h),
               );
         }
-
-pub consistent_flow : {net : Network} {to : List ℕ} {s t v : ℕ} {r r' : List (List ℕ)} → Consistent net to r
-    → Flowing net s t v r' → Consistent net to r'
-consistent_flow a f = record { fits = a.fits; leads = a.leads; balanced = f.balanced }
-
-pub ready_consistent : {net : Network} {first next to : List ℕ} {s t v : ℕ} {r : List (List ℕ)}
-    → Ready net first next to s t → Flowing net s t v r → Consistent net to r
-ready_consistent a f = record { fits = a.ends.fits; leads = a.chains.leads; balanced = f.balanced }

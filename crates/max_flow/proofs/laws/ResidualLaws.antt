@@ -1,34 +1,22 @@
--- Laws of the residual capacities: the lesser of two, what the code reads, the start, one arc along which more is sent.
-use Rattle.std.specs.Prelude.{◌≡◌, ◌≢◌, Bool, set, length, leb}
-use Rattle.std.proofs.Math.Path.{refl}
-use Rattle.std.proofs.Common.{ap, ◌∙◌, arith, get_or-set_same}
-use Rattle.std.proofs.Math.Bool.{true, false, cond}
-use mathlib.Core.List.{List, [], ◌∷◌}
-use Prim.Native.Nat.{ℕ, zero, suc, ◌+◌, ◌*◌, ◌/◌, ◌%◌, ◌<◌, ◌≤◌}
-use Rattle.std.proofs.Math.Decide.{ℕ_discrete}
-use Rattle.std.proofs.Math.ListN.{get_or, length-set, length-replicate, get_or-replicate}
-use Rattle.std.proofs.Math.Seq.{get_or-set_other}
-use borrow.Author.Tests.{eqb-true, eqb-false, leb-true, leb-false}
+-- Laws of the residual capacities: what the code reads, the start, one arc along which more is sent.
+use Rattle.std.proofs.Common.{◌≡◌, ◌≢◌, Bool, set, length, refl, ap, ◌∙◌, arith, get_or-set_same, true, false}
+use Rattle.std.proofs.Common.{cond, List, [], ◌∷◌, ℕ, zero, suc, ◌+◌, ◌*◌, ◌/◌, ◌%◌, ◌<◌, ◌≤◌, get_or, length-set}
+use Rattle.std.proofs.Common.{get_or-set_other, eqb-true, sym, ext_get_or}
+use Rattle.std.proofs.lemmas.List.{length-replicate, get_or-replicate}
+use Rattle.std.proofs.lemmas.Bool.{eqb-false}
+use Rattle.std.proofs.Math.Decide.{ℕ_discrete, dec_lt}
 use Rattle.base.proofs.laws.SumLaws.{sum_ext}
 use Rattle.min_cut.specs.code.Residual.{residual, ResidualFlow, Pushed, At}
 use Rattle.min_cut.proofs.code.Residual.{start, push_ahead, push_back}
 use Rattle.min_cut.specs.code.Arcs.{tail, tip, spare, forward}
 use Rattle.base.specs.Basics.{at}
-use Rattle.network.specs.Limits.{max_links, max_arcs, max_capacity}
+use Rattle.network.specs.Limits.{max_links, max_arcs}
 use Rattle.network.specs.Network.{network_fits, graph}
-use Rattle.network.proofs.laws.NetworkLaws.{links_le, capacity_le}
+use Rattle.network.proofs.laws.NetworkLaws.{links_le, capacity_le, capacity_none}
 use Rattle.network.specs.declared.Network.{Network}
 use Rattle.max_flow.specs.GrowingFlow.{ahead, back}
-use Rattle.max_flow.specs.code.Residuals.{lesser_of, room_on, row_after, sent_along, full_up_to, full_residual}
-use Rattle.max_flow.specs.code.Residuals.{Balanced, Along}
-
--- the lesser of two
-pub lesser_fits : (a b : ℕ) → (lesser_of a b ≤ a) × (lesser_of a b ≤ b) × (0 < a → 0 < b → 0 < lesser_of a b)
-lesser_fits a b = go (leb a b) refl
-  where
-    go : (c : Bool) → leb a b ≡ c → (cond c a b ≤ a) × (cond c a b ≤ b) × (0 < a → 0 < b → 0 < cond c a b)
-    go true e = (omega arith, leb-true a b e, λ p q. p)
-    go false e = (omega (arith, leb-false a b e), omega arith, λ p q. q)
+use Rattle.max_flow.specs.code.Residuals.{room_on, row_after, sent_along, full_up_to, full_residual}
+use Rattle.max_flow.specs.code.Residuals.{Balanced, Along, MaySend}
 
 -- what the code reads
 pub spare_read : (r : List (List ℕ)) (e : ℕ) → get_or (get_or r (e / 2) []) (e % 2) 0 ≡ room_on r e
@@ -62,6 +50,20 @@ module _ (net : Network) where
   unfolding full_up_to
   full_rest zero j l m = let row : List ℕ = 0 ∷ 0 ∷ [] in get_or-replicate max_links j row [] m
   full_rest (suc k) j l m = get_or-set_other (full_up_to net k) k j _ [] (λ e. omega arith) ∙ full_rest k j (omega arith) m
+
+  -- a row of its capacity for each place is the start: an unused place has none
+  pub full_rows : network_fits net ≡ true → (rows : List (List ℕ)) → length rows ≡ max_links
+      → ((k : ℕ) → k < max_links → get_or rows k [] ≡ at net.capacity k ∷ at net.capacity k ∷ []) → rows ≡ full_residual net
+  full_rows h rows long each =
+      ext_get_or [] rows (full_residual net) (long ∙ sym (full_long net.links))
+      (λ k l. let m : k < max_links = omega (arith, long) in each k m ∙ sym (row k m (dec_lt k net.links)))
+    where
+      row : (k : ℕ) → k < max_links → Dec (k < net.links)
+          → get_or (full_residual net) k [] ≡ at net.capacity k ∷ at net.capacity k ∷ []
+      row k m (yes l) = full_at net.links k l (links_le net h)
+      row k m (no n) =
+          let l : net.links ≤ k = omega arith in
+          rw (capacity_none net h k l) (full_rest net.links k l m)
 
   -- the capacity stands in the row
   pub full_ahead : network_fits net ≡ true → (k : ℕ) → k < net.links → ahead (full_residual net) k ≡ at net.capacity k
@@ -175,7 +177,6 @@ module _ {net : Network} {r : List (List ℕ)} {e d : ℕ} (a : Along net r e d)
   pub arc_lt : e < max_arcs
   arc_lt = omega (arith, a.here, links_le net a.fits)
 
-  pub along_fits : (d ≤ cond (forward e) (ahead r (e / 2)) (back r (e / 2)))
-      × (ahead r (e / 2) + back r (e / 2) ≤ 2 * max_capacity)
+  pub may_send : MaySend r e d
   unfolding spare
-  along_fits = (a.spare, omega (arith, b.both k kl, capacity_le net a.fits k kl))
+  may_send = record { arc = arc_lt; room = a.spare; sum = omega (arith, b.both k kl, capacity_le net a.fits k kl) }

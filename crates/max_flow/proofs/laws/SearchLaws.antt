@@ -1,7 +1,7 @@
 -- Laws of search trees: what a tree from s gives, its seed, and one node more.
-use Rattle.std.specs.Prelude.{◌≡◌, refl, ◌≢◌, Bool, true, false, cond, List, ℕ, zero, suc, ◌+◌, ◌-◌, ◌*◌, ◌/◌, ◌<◌, ◌≤◌}
-use Rattle.std.specs.Prelude.{length, set, replicate}
-use Rattle.std.proofs.Common.{sym, ap, ◌∙◌, true≢false, arith, length-set, get_or-set_same, get_or-set_other}
+use Rattle.std.proofs.Common.{◌≡◌, refl, ◌≢◌, Bool, true, false, cond, List, ℕ, zero, suc, ◌+◌, ◌-◌, ◌*◌, ◌/◌, ◌<◌}
+use Rattle.std.proofs.Common.{◌≤◌, length, set, replicate, min, sym, ap, ◌∙◌, true≢false, arith, length-set}
+use Rattle.std.proofs.Common.{get_or-set_same, get_or-set_other}
 use Rattle.std.proofs.Math.Decide.{ℕ_discrete}
 use Rattle.std.proofs.lemmas.List.{length-replicate, get_or-replicate}
 use Rattle.min_cut.specs.Cut.{Side, ◌⊆◌}
@@ -16,8 +16,7 @@ use Rattle.node_set.specs.Set.{empty, added}
 use Rattle.node_set.proofs.theorems.Members.{holds_empty, empty_lt, added_same, added_other, added_keeps, added_lt}
 use Rattle.node_set.proofs.laws.SizeLaws.{size_le, size_empty, size_added, member_lt}
 use Rattle.max_flow.specs.GrowingFlow.{ahead, back}
-use Rattle.max_flow.specs.code.Residuals.{lesser_of, room_on}
-use Rattle.max_flow.proofs.laws.ResidualLaws.{lesser_fits}
+use Rattle.max_flow.specs.code.Residuals.{room_on}
 use Rattle.max_flow.specs.code.Search.{seed_of, grown, Entered, TreeFrom}
 use Rattle.max_flow.specs.declared.search.SearchTree.{SearchTree}
 
@@ -236,7 +235,7 @@ module _ {net : Network} {r : List (List ℕ)} {s : ℕ} {w : SearchTree} (f : T
   -- it leads to x, which is new
   pub visited_new : network_fits net ≡ true → (i : ℕ) → i < w.count → e < 2 * net.links
       → tail (graph net) e ≡ at w.node i → (x d : ℕ) → x ≡ tip (graph net) e
-      → d ≡ lesser_of (room_on r e) (at w.bottleneck i) → 0 < room_on r e → holds w.reached x ≡ false
+      → d ≡ min (room_on r e) (at w.bottleneck i) → 0 < room_on r e → holds w.reached x ≡ false
       → Visited net r s w e (grown w i e x d)
   visited_new h i il el et x d ex ed p new =
       record {
@@ -250,11 +249,10 @@ module _ {net : Network} {r : List (List ℕ)} {s : ℕ} {w : SearchTree} (f : T
     where
       given : TreeFrom net r s (grown w i e x d) × (at (set w.node w.count x) (w.count + 1 - 1) ≡ x)
       given =
-          let q = lesser_fits (room_on r e) (at w.bottleneck i) in
           let xl : x < net.nodes = omega (arith, ex, tip_lt net h e el) in
-          let some : 0 < d = omega (arith, q.2 p (f.flows i il), ed) in
-          let fits : d ≤ room_on r e = omega (arith, q.0, ed) in
-          let falls : d ≤ at w.bottleneck i = omega (arith, q.1, ed) in (
+          let some : 0 < d = omega (arith, p, f.flows i il, ed) in
+          let fits : d ≤ room_on r e = omega (arith, ed) in
+          let falls : d ≤ at w.bottleneck i = omega (arith, ed) in (
             grown_tree h f i e x d il el et (sym ex) xl new some fits falls,
             last_new h f i e x d il el et (sym ex) xl new some fits falls,
           )

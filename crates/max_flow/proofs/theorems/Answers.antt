@@ -1,7 +1,6 @@
 -- That the answers are what their names say: the cut is the least minimum cut among all sides, and no lawful flow has a
 -- larger total.
-use Rattle.std.specs.Prelude.{◌≡◌, ℕ, List, ℤ}
-use Rattle.std.proofs.Math.Path.{refl}
+use Rattle.std.proofs.Common.{◌≡◌, ℕ, List, ℤ, refl}
 use Rattle.min_cut.specs.Cut.{cut_value, LeastMinCut}
 use Rattle.base.specs.Word.{holds}
 use Rattle.min_cut.proofs.theorems.LeastCut.{least_min_cut_least}

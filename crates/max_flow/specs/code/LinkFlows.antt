@@ -1,8 +1,7 @@
 -- From residual capacities to a flow with one signed number for each link, positive from a to b: what was there before
 -- anything was sent, its
 -- capacity, less what is left from a to b.
-use Rattle.std.specs.Prelude.{List, ℤ, pos, ◌-ℤ◌, set, length}
-use Prim.Native.Nat.{ℕ, zero, suc, ◌+◌, ◌*◌, ◌<◌, ◌≤◌}
+use Rattle.std.specs.Prelude.{List, ℤ, pos, ◌-ℤ◌, set, length, ℕ, zero, suc, ◌+◌, ◌*◌, ◌<◌, ◌≤◌}
 use Rattle.network.specs.Limits.{max_links, max_capacity}
 use Rattle.max_flow.specs.GrowingFlow.{ahead, back}
 

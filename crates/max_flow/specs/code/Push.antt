@@ -2,7 +2,6 @@
 -- is sent at its end.
 use Rattle.std.specs.Prelude.{◌≡◌, true, List, ℕ, ◌-◌, ◌<◌, ◌≤◌}
 use Rattle.min_cut.specs.code.Residual.{Pushed}
-use Rattle.min_cut.specs.code.Arcs.{tip}
 use Rattle.base.specs.Basics.{at}
 use Rattle.network.specs.Limits.{max_nodes, max_arcs}
 use Rattle.network.specs.Network.{network_fits, graph}

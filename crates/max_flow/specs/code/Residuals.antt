@@ -1,11 +1,11 @@
 -- The residual capacities as the code holds them (the paper: "each link has two spare capacities, one each way"): a
 -- row of two for each link.
 use Rattle.std.specs.Prelude.{◌≡◌, ◌≢◌, Bool, true, false, cond, List, [], ◌∷◌, ℕ, zero, suc, ◌+◌, ◌-◌, ◌*◌, ◌/◌, ◌<◌}
-use Rattle.std.specs.Prelude.{◌≤◌, leb, set, length, replicate}
+use Rattle.std.specs.Prelude.{◌≤◌, set, length, replicate}
 use Rattle.min_cut.specs.code.Arcs.{spare, forward}
 use Rattle.min_cut.specs.code.Residual.{Pushed}
 use Rattle.base.specs.Basics.{at}
-use Rattle.network.specs.Limits.{max_links}
+use Rattle.network.specs.Limits.{max_links, max_arcs, max_capacity}
 use Rattle.network.specs.Network.{network_fits, graph}
 use Rattle.network.specs.declared.Network.{Network}
 use Rattle.max_flow.specs.GrowingFlow.{ahead, back, HasTotal, Improved}
@@ -13,9 +13,6 @@ use Rattle.max_flow.specs.GrowingFlow.{ahead, back, HasTotal, Improved}
 -- no limit to what can be sent: more than any cut's value
 abbrev pub unlimited : ℕ
 unlimited = 4294967295
-
-abbrev pub lesser_of : ℕ → ℕ → ℕ
-lesser_of a b = cond (leb a b) a b
 
 -- what may still be sent along arc e
 abbrev pub room_on : List (List ℕ) → ℕ → ℕ
@@ -44,7 +41,13 @@ pub record Balanced (net : Network) (r : List (List ℕ)) : Type 0 where
   pub both : (k : ℕ) → k < net.links → ahead r k + back r k ≡ 2 * at net.capacity k
   pub none : (k : ℕ) → net.links ≤ k → k < max_links → ahead r k + back r k ≡ 0
 
--- d may be sent along arc e
+-- arc e has room for d, and its link's row for what is added: what the code asks before it changes the row
+pub record MaySend (r : List (List ℕ)) (e d : ℕ) : Type 0 where
+  pub arc : e < max_arcs
+  pub room : d ≤ cond (forward e) (ahead r (e / 2)) (back r (e / 2))
+  pub sum : ahead r (e / 2) + back r (e / 2) ≤ 2 * max_capacity
+
+-- d may be sent along arc e of a network
 pub record Along (net : Network) (r : List (List ℕ)) (e d : ℕ) : Type 0 where
   pub fits : network_fits net ≡ true
   pub balanced : Balanced net r

@@ -1,5 +1,5 @@
 -- What the loops of the search keep: the one over the places of the tree, and the one over a node's own arcs.
-use Rattle.std.specs.Prelude.{◌≡◌, true, false, List, [], ℕ, ◌-◌, ◌*◌, ◌/◌, ◌%◌, ◌<◌, ◌≤◌, get_or}
+use Rattle.std.specs.Prelude.{◌≡◌, true, false, List, [], ℕ, ◌-◌, ◌*◌, ◌/◌, ◌%◌, ◌<◌, ◌≤◌, get_or, min}
 use Rattle.base.specs.Word.{holds}
 use Rattle.min_cut.specs.code.Arcs.{tail, tip}
 use Rattle.base.specs.Basics.{at}
@@ -7,7 +7,7 @@ use Rattle.network.specs.Limits.{max_nodes, max_arcs}
 use Rattle.network.specs.Network.{graph}
 use Rattle.network.specs.code.Incidence.{Leaves}
 use Rattle.network.specs.declared.Network.{Network}
-use Rattle.max_flow.specs.code.Residuals.{lesser_of, room_on}
+use Rattle.max_flow.specs.code.Residuals.{room_on}
 use Rattle.max_flow.specs.code.Search.{grown, TreeFrom}
 use Rattle.max_flow.specs.declared.search.SearchTree.{SearchTree}
 
@@ -48,7 +48,7 @@ pub record Looking (next to : List ℕ) (w : SearchTree) (i e : ℕ) : Type 0 wh
 -- arc e - 1 leads to a new node, and w' is the tree with it
 pub record Fresh (to : List ℕ) (r : List (List ℕ)) (w : SearchTree) (i e : ℕ) (w' : SearchTree) : Type 0 where
   pub amount : ℕ
-  pub most : amount ≡ lesser_of (get_or (get_or r ((e - 1) / 2) []) ((e - 1) % 2) 0) (at w.bottleneck i)
+  pub most : amount ≡ min (get_or (get_or r ((e - 1) / 2) []) ((e - 1) % 2) 0) (at w.bottleneck i)
   pub some : 0 < get_or (get_or r ((e - 1) / 2) []) ((e - 1) % 2) 0
   pub new : holds w.reached (at to (e - 1)) ≡ false
   pub tree : w' ≡ grown w i (e - 1) (at to (e - 1)) amount

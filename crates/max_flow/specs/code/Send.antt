@@ -1,6 +1,5 @@
 -- Flow sent from u to t over arcs that a hint names and a test allows: what one call promises, and how calls add up.
-use Rattle.std.specs.Prelude.{◌≡◌, List, ℕ, ◌+◌, ◌-◌, ◌*◌, ◌%◌, ◌<◌, ◌≤◌}
-use Rattle.std.proofs.Math.Bool.{true, false}
+use Rattle.std.specs.Prelude.{◌≡◌, List, ℕ, ◌+◌, ◌-◌, ◌*◌, ◌%◌, ◌<◌, ◌≤◌, true, false}
 use Rattle.base.specs.Word.{holds}
 use Rattle.min_cut.specs.code.Arcs.{tail, tip}
 use Rattle.base.specs.Basics.{at}

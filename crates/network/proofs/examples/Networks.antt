@@ -1,6 +1,7 @@
 -- Each definition at small networks: what the limits let through and what not, cuts and flows of resort
--- A, rows of checks.
+-- A, the numbers of refusals.
 use Rattle.std.specs.Prelude.{◌≡◌, refl, true, false, List, [], ◌∷◌, ◌++◌, ℕ, ◌-◌, ℤ, pos, neg_ℤ, length, set, replicate}
+use Rattle.std.specs.Prelude.{Result, Ok, Err}
 use Rattle.base.specs.Sum.{sum}
 use Rattle.min_cut.specs.Cut.{cut_value}
 use Rattle.min_cut.specs.FirstWord.{first, least_min_cut}
@@ -12,7 +13,13 @@ use Rattle.network.specs.Limits.{max_nodes, max_links, max_arcs, max_value}
 use Rattle.network.specs.Network.{network_fits, no_network, with_capacity, graph, crosses_link, value_of, least_side}
 use Rattle.network.specs.Network.{min_cut_value, total_of}
 use Rattle.network.specs.code.Incidence.{arcs_from, walk}
+use Rattle.network.specs.Refusals.{refusal_number, outcome_number}
 use Rattle.network.specs.declared.Network.{Network}
+use Rattle.network.specs.declared.refusals.Refusal.{Refusal}
+use Rattle.network.specs.declared.refusals.Refusal.TheVariants.{EndsEarly, NumberTooLong, ZeroGroup, BadNodeCount, TooManyLinks}
+use Rattle.network.specs.declared.refusals.Refusal.TheVariants.{EndNotANode, EqualEnds, LinkTooLarge, BytesFollow, NoSuchLink}
+use Rattle.network.specs.declared.refusals.Refusal.TheVariants.{CapacityTooLarge, StackFull, NothingToUndo, NoSuchNode, SameNode}
+use Rattle.network.specs.declared.refusals.Refusal.TheVariants.{FlowLength, DemandTooLarge, BufferTooShort, NotSound, TooManyReadings}
 
 -- ---- the limits
 -- a network of n nodes by its links' ends and capacities
@@ -137,3 +144,25 @@ arcs = (refl, refl)
 walked : walk 10 (0 ∷ 0 ∷ 0 ∷ 0 ∷ 0 ∷ 0 ∷ 1 ∷ 0 ∷ 7 ∷ 0 ∷ []) 9 ≡ 8 ∷ 6 ∷ 0 ∷ []
 unfolding walk
 walked = refl
+
+-- ---- the table's numbers, 1 to 20: of a file, of calls on a plan, of a gate's record
+of_files : (refusal_number EndsEarly ≡ 1) × (refusal_number NumberTooLong ≡ 2) × (refusal_number ZeroGroup ≡ 3)
+    × (refusal_number BadNodeCount ≡ 4) × (refusal_number TooManyLinks ≡ 5) × (refusal_number EndNotANode ≡ 6)
+    × (refusal_number EqualEnds ≡ 7) × (refusal_number LinkTooLarge ≡ 8) × (refusal_number BytesFollow ≡ 9)
+of_files = (refl, refl, refl, refl, refl, refl, refl, refl, refl)
+
+of_calls : (refusal_number NoSuchLink ≡ 10) × (refusal_number CapacityTooLarge ≡ 11) × (refusal_number StackFull ≡ 12)
+    × (refusal_number NothingToUndo ≡ 13) × (refusal_number NoSuchNode ≡ 14) × (refusal_number SameNode ≡ 15)
+    × (refusal_number FlowLength ≡ 16) × (refusal_number DemandTooLarge ≡ 17) × (refusal_number BufferTooShort ≡ 18)
+    × (refusal_number NotSound ≡ 19) × (refusal_number TooManyReadings ≡ 20)
+of_calls = (refl, refl, refl, refl, refl, refl, refl, refl, refl, refl, refl)
+
+-- a call that is refused, and one that is accepted, whatever it gives
+abbrev refused : Result ℕ Refusal
+refused = Err NothingToUndo
+
+abbrev gives : ℕ → Result ℕ Refusal
+gives x = Ok x
+
+outcomes : (outcome_number refused ≡ 13) × (outcome_number (gives 13) ≡ 0) × (outcome_number (gives 0) ≡ 0)
+outcomes = (refl, refl, refl)

@@ -1,9 +1,5 @@
 -- What the change of one capacity does to the value of every side.
-use Rattle.std.specs.Prelude.{◌≡◌, refl, Bool, true, false, set}
-use Rattle.std.proofs.Math.Path.{ap}
-use Rattle.std.proofs.Common.{◌∙◌, get_or-set_other}
-use Prim.Native.Nat.{ℕ, ◌+◌, ◌<◌}
-use native.Mathlib.Omega.{arith}
+use Rattle.std.proofs.Common.{◌≡◌, refl, Bool, true, false, set, ap, ◌∙◌, get_or-set_other, ℕ, ◌+◌, ◌<◌, arith}
 use Rattle.std.proofs.Math.Seq.{get_or-set_same}
 use Rattle.base.proofs.laws.SumLaws.{sum_at}
 use Rattle.base.specs.Basics.{pick, at, differ}

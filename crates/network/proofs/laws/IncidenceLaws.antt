@@ -1,10 +1,6 @@
 -- Laws of the incidence lists: how they grow link by link, and what a walk along a chain meets.
-use Rattle.std.specs.Prelude.{◌≡◌, refl, ◌≢◌, true, set, length, replicate}
-use Rattle.std.proofs.Math.Path.{sym, ap}
-use Rattle.std.proofs.Common.{◌∙◌, length-set, get_or-set_same, get_or-set_other, eq-eqb, ne_eqb}
-use mathlib.Core.List.{List, ◌∷◌}
-use Prim.Native.Nat.{ℕ, zero, suc, ◌+◌, ◌-◌, ◌*◌, ◌<◌, ◌≤◌}
-use native.Mathlib.Omega.{arith}
+use Rattle.std.proofs.Common.{◌≡◌, refl, ◌≢◌, true, set, length, replicate, sym, ap, ◌∙◌, length-set, get_or-set_same}
+use Rattle.std.proofs.Common.{get_or-set_other, eq-eqb, ne_eqb, List, ◌∷◌, ℕ, zero, suc, ◌+◌, ◌-◌, ◌*◌, ◌<◌, ◌≤◌, arith}
 use Rattle.std.proofs.Math.Decide.{ℕ_discrete}
 use Rattle.min_cut.specs.Cut.{Net}
 use Rattle.min_cut.specs.code.Arcs.{tail, tip}

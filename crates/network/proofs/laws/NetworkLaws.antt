@@ -1,12 +1,8 @@
 -- What the limits of a network say, and that a changed capacity keeps them.
-use Rattle.std.specs.Prelude.{◌≡◌, ◌≢◌, Bool, true, false, ℕ, ◌+◌, ◌≤◌, ◌<◌}
-use Rattle.std.proofs.Math.Path.{refl}
-use Rattle.std.proofs.Common.{sym, ◌∙◌, true≢false, length-set, drop-set-lt}
-use Rattle.std.specs.Bool.{beq}
-use native.Mathlib.Omega.{arith}
+use Rattle.std.proofs.Common.{◌≡◌, ◌≢◌, Bool, true, ℕ, ◌+◌, ◌≤◌, ◌<◌, refl, ◌∙◌, length-set, drop-set-lt, arith, add-one}
+use Rattle.std.proofs.Common.{ltb-true, leb-true, le-leb}
 use Rattle.std.proofs.Math.Decide.{dec_lt}
-use Rattle.std.proofs.Math.Numerals.{add-one}
-use borrow.Author.Tests.{ltb-true, leb-true, le-leb, eqb-false, not-true}
+use Rattle.std.proofs.lemmas.Bool.{eqb-false, not-true}
 use Rattle.base.proofs.laws.Bools.{bool2}
 use Rattle.base.specs.Sum.{sum}
 use Rattle.min_cut.specs.Cut.{Side, crossing, cut_value, Within}
@@ -49,27 +45,15 @@ module _ (net : Network) (e : network_fits net ≡ true) where
   pub capacity_le : (k : ℕ) → k < net.links → at net.capacity k ≤ max_capacity
   capacity_le k l = leb-true _ _ (head (rest (rest (rest (shown _ (link_fits_lem k l))))))
 
+  -- an unused place
+  pub capacity_none : (k : ℕ) → net.links ≤ k → at net.capacity k ≡ 0
+  unfolding network_fits
+  capacity_none k l =
+      let unused = head (rest (rest (rest (rest (rest (rest (shown _ e))))))) in
+      blank_above net.links net.capacity unused k l
+
 crossing_le : (c : ℕ) (x y : Bool) → crossing x y c ≤ c
 crossing_le c = bool2 _ (omega arith)
-
--- the test of a link's two ends, by what was answered for each
-pub crossing_none : {r q x y : Bool} (c : ℕ) → r ≡ x → q ≡ y → beq r q ≡ true → 0 ≡ crossing x y c
-crossing_none {r} {q} c ex ey e = rw (← ex, ← ey) (go r q e)
-  where
-    go : (r q : Bool) → beq r q ≡ true → 0 ≡ crossing r q c
-    go true true e = refl
-    go true false e = absurd (true≢false (sym e))
-    go false true e = absurd (true≢false (sym e))
-    go false false e = refl
-
-pub crossing_all : {r q x y : Bool} (c : ℕ) → r ≡ x → q ≡ y → beq r q ≡ false → c ≡ crossing x y c
-crossing_all {r} {q} c ex ey e = rw (← ex, ← ey) (go r q e)
-  where
-    go : (r q : Bool) → beq r q ≡ false → c ≡ crossing r q c
-    go true true e = absurd (true≢false e)
-    go true false e = refl
-    go false true e = refl
-    go false false e = absurd (true≢false e)
 
 -- the value of a side by the links before k, as a loop over the links has it
 unfoldable pub value_before : Network → Side → ℕ → ℕ
@@ -112,14 +96,11 @@ module _ (net : Network) (k c : ℕ) (kl : k < net.links) (cl : c ≤ max_capaci
   module _ (e : network_fits net ≡ true) where
     -- a capacity at any place, used or not
     any_capacity : (i : ℕ) → at net.capacity i ≤ max_capacity
-    unfolding network_fits
     any_capacity i = go (dec_lt i net.links)
       where
         go : Dec (i < net.links) → at net.capacity i ≤ max_capacity
         go (yes l) = capacity_le net e i l
-        go (no l) =
-            let unused = head (rest (rest (rest (rest (rest (rest (shown _ e))))))) in
-            omega (arith, blank_above net.links net.capacity unused i (omega arith))
+        go (no l) = omega (arith, capacity_none net e i (omega arith))
 
     same_link : (i : ℕ) → link_fits net i ≡ true → link_fits (with_capacity net k c) i ≡ true
     same_link i f =

@@ -11,8 +11,8 @@ use Rattle.network_file.specs.Faults.{Due, first, then, Bad, one, two, three, by
 use Rattle.network_file.proofs.laws.NumberLaws.{groups_read, read_ends_early, read_too_long, read_zero_last, refused_value}
 use Rattle.network_file.proofs.laws.Taking.{Passes}
 use Rattle.network_file.proofs.laws.Told.{Told, is_refused, is_accepted, told}
-use Rattle.network_file.specs.declared.Number.TheVariants.{Value, Refused}
-use Rattle.network_file.specs.declared.Progress.{Progress}
+use Rattle.network_file.specs.Number.{Value, Refused}
+use Rattle.network_file.specs.Reading.{Progress}
 
 -- ---- what stands at a place is one thing
 stands_read : {s : List ℕ} {place v size : ℕ} → Stands s place v size → read_groups max_groups (drop place s) ≡ Value v size

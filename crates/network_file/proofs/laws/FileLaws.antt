@@ -1,15 +1,15 @@
 -- What reading and writing say of each other: what is accepted is within the limits and is written back; what is written is read back.
-use Rattle.std.specs.Prelude.{ℕ, ◌≡◌, refl, ◌≢◌, List}
+use Rattle.std.specs.Prelude.{ℕ, ◌≡◌, refl, ◌≢◌, true, List}
 use Rattle.std.proofs.Common.{sym, ap, ◌∙◌, arith}
-use Rattle.network.specs.Network.{WithinLimits, no_network}
+use Rattle.network.specs.Network.{network_fits, WithinLimits, no_network}
 use Rattle.network.specs.declared.Network.{Network}
 use Rattle.network_file.specs.Number.{Bytes}
 use Rattle.network_file.specs.Reading.{read_file}
 use Rattle.network_file.specs.Writing.{file_of}
 use Rattle.network_file.proofs.laws.Told.{Told, is_refused, is_accepted, told}
 use Rattle.network_file.proofs.laws.RoundTrip.{all_read}
-use Rattle.network_file.specs.declared.Progress.{Progress}
-use Rattle.network_file.specs.declared.Reading.{Reading}
+use Rattle.network_file.specs.Reading.{Progress}
+use Rattle.network_file.specs.Reading.{Reading}
 
 module _ {s : List ℕ} where
   within : {r : Progress} → Told s r → r.number ≡ 0 → WithinLimits r.network
@@ -28,6 +28,14 @@ module _ {s : List ℕ} where
 pub accepts : (s : List ℕ) → (read_file s).number ≡ 0 → WithinLimits (read_file s).network
 unfolding read_file
 accepts s e = within (told s) e
+
+-- so the network of an accepted file is one
+pub accepted_fits : (s : List ℕ) (net : Network) → record { number = 0; place = 0; network = net } ≡ read_file s
+    → network_fits net ≡ true
+accepted_fits s net h =
+    let fits : network_fits (read_file s).network ≡ true =
+    (accepts s (sym (ap (λ (r : Reading). r.number) h))).fits in
+    ap (λ (r : Reading). network_fits r.network) h ∙ fits
 
 pub written_back : (s : List ℕ) → Bytes s → (read_file s).number ≡ 0 → file_of (read_file s).network ≡ s
 unfolding read_file

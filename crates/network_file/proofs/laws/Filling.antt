@@ -1,9 +1,7 @@
 -- The network that is filled while a file is read: its first k links are within the limits, its other places are 0.
-use Prim.Native.Nat.{ℕ, zero, suc, ◌≤◌, ◌<◌}
-use Rattle.std.specs.Prelude.{◌≡◌, ◌≢◌, true, not, ◌++◌, set}
-use Rattle.std.proofs.Math.Path.{refl}
-use Rattle.std.proofs.Common.{ap, ◌∙◌, length-set, get_or-set_same, lt-ltb, ne_eqb, le-leb}
-use native.Mathlib.Omega.{arith}
+use Rattle.std.specs.Prelude.{ℕ, zero, suc, ◌≤◌, ◌<◌, ◌++◌, set, ◌≡◌, ◌≢◌, true, not}
+use Rattle.std.proofs.Common.{refl, ap, ◌∙◌, arith, lt-ltb, ne_eqb, get_or-set_same, length-set}
+use Rattle.std.proofs.Common.{le-leb}
 use Rattle.std.proofs.Math.Decide.{ℕ_discrete}
 use Rattle.std.proofs.lemmas.List.{length-replicate}
 use Rattle.std.proofs.Math.Seq.{get_or-set_other}

@@ -15,7 +15,7 @@ use Rattle.network_file.proofs.laws.LengthLaws.{stands_up}
 use Rattle.network_file.proofs.laws.Told.{Told, is_refused, is_accepted, told}
 use Rattle.network_file.proofs.laws.FileLaws.{refused_network}
 use Rattle.network_file.proofs.laws.FaultLaws.{fault_given, fault_only}
-use Rattle.network_file.specs.declared.Reading.{Reading}
+use Rattle.network_file.specs.Reading.{Reading}
 use Rattle.base.proofs.laws.ListLaws.{drop_take}
 
 -- ---- what is still to come has at most so many bytes

@@ -9,8 +9,8 @@ use Rattle.network.specs.Limits.{max_groups}
 use Rattle.network.specs.Refusals.{zero_group}
 use Rattle.network_file.specs.Number.{continued, read_groups, read_number, group_bytes, number_bytes, Bytes}
 use Rattle.network_file.specs.Faults.{Groups, last, more, Topped, EndsEarly, TooLong, ZeroLast}
-use Rattle.network_file.specs.declared.Number.{Number}
-use Rattle.network_file.specs.declared.Number.TheVariants.{Value, Refused}
+use Rattle.network_file.specs.Number.{Number}
+use Rattle.network_file.specs.Number.{Value, Refused}
 
 -- ---- one group
 module _ (most x : ℕ) (xs : List ℕ) where

@@ -1,27 +1,23 @@
 -- Reading in the steps of the code: numbers taken one behind the other, each with its row; and the link, the file and the reply by them.
-use Prim.Native.Nat.{ℕ, zero, suc, ◌+◌, ◌≤◌, ◌<◌}
-use Rattle.std.specs.Prelude.{◌≡◌, refl, ◌≢◌, Bool, true, false, not, ◌||◌, List, length, drop, ltb, eqb}
-use Rattle.std.proofs.Math.Path.{sym, ap, subst}
-use Rattle.std.proofs.Common.{◌∙◌, true≢false, arith, lt-ltb, le-ltb, ltb-false}
-use Rattle.std.proofs.Math.ListN.{length-drop}
+use Rattle.std.specs.Prelude.{ℕ, zero, suc, ◌+◌, ◌≤◌, ◌<◌, ◌≡◌, ◌≢◌, Bool, true, false, not, ◌||◌, List, length, drop, ltb, eqb}
+use Rattle.std.specs.Prelude.{Result, Ok, Err, MatchResult, IsErrAnd}
+use Rattle.std.proofs.Common.{refl, sym, ap, subst, ◌∙◌, true≢false, arith, lt-ltb, le-ltb, ltb-false, length-drop}
+use Rattle.std.proofs.lemmas.Result.{err_from_is_err_and}
 use Rattle.base.specs.Checks.{check, accepted}
 use Rattle.base.proofs.laws.ChecksLaws.{below, not_above, passed_row, refused_by}
 use Rattle.network.specs.Limits.{max_nodes, max_links, max_groups}
-use Rattle.network_file.specs.Number.{read_number, refusal_in, value_in, size_in}
+use Rattle.network.specs.Network.{no_network}
+use Rattle.network.specs.Refusals.{refusal_number}
+use Rattle.network.specs.declared.Network.{Network}
+use Rattle.network.specs.declared.refusals.Refusal.{Refusal}
+use Rattle.network.proofs.laws.RefusalLaws.{refusal_some}
+use Rattle.network_file.specs.Number.{Number, Value, Refused, read_number, refusal_in, value_in, size_in}
 use Rattle.network_file.specs.Reading.{nodes_row, links_row, end_row, other_end_row, no_number, a_number, taken, taking, no_link, link_at}
 use Rattle.network_file.specs.Reading.{stopped, going, unread, after, read_links, ended, read_all, read_by}
-use Rattle.network_file.specs.code.Rows.{taken_next}
+use Rattle.network_file.specs.Reading.{Taken, Link, Progress, Reading}
+use Rattle.network_file.specs.code.Parts.{as_progress, as_read}
+use Rattle.network_file.specs.declared.Fault.{Fault}
 use Rattle.network_file.proofs.laws.NumberLaws.{Seen, sees_one, sees_two, sees_three, sees_value, seen, size_within, refused_value}
-use Rattle.network_file.specs.declared.Number.{Number}
-use Rattle.network_file.specs.declared.Number.TheVariants.{Value, Refused}
-use Rattle.network_file.specs.declared.Taken.{Taken}
-use Rattle.network_file.specs.declared.Link.{Link}
-use Rattle.network_file.specs.declared.Progress.{Progress}
-use Rattle.network_file.specs.declared.Reading.{Reading}
-
--- ---- by a refusal number
-pub accepted_by : {A : Type 0} (e : ℕ) (x : A) (refused : ℕ → A) → e ≡ 0 → accepted e x refused ≡ x
-accepted_by e x refused z = rw z
 
 -- ---- a number is taken: it is not read, or its row is wrong, or it passes
 seen_refused : {t : List ℕ} {r : Number} (e : ℕ) → Seen max_groups t r → r ≡ Refused e → e ≢ 0
@@ -97,72 +93,78 @@ module _ (s : List ℕ) (place : ℕ) (row : ℕ → ℕ) where
       go stops = l
       go (goes z h) = h l
 
-pub behind_next : (s : List ℕ) (t : Taken) (row : ℕ → ℕ) → t.next ≤ length s → (u : Taken) → u ≡ taken_next s t row → u.next ≤ length s
-behind_next s t row l u e = subst (λ (v : Taken). v.next ≤ length s) (sym e) (go t.number)
-  where
-    go : (e : ℕ) → (accepted e (taken s t.next row) (λ e. t)).next ≤ length s
-    go zero = behind s t.next row l (taken s t.next row) refl
-    go (suc e) = l
+-- ---- of an equal file, and from its first byte
+pub in_file : (place : ℕ) (row : ℕ → ℕ) {s s' : List ℕ} {t : Taken} → s' ≡ s → t ≡ taken s' place row → t ≡ taken s place row
+in_file place row {t = t} e h = subst (λ (s : List ℕ). t ≡ taken s place row) e h
 
--- ---- a link, by the three numbers
-module _ (third : ℕ → ℕ) (s : List ℕ) (place n : ℕ) where
-  abbrev last : ℕ → ℕ → ℕ → ℕ → Link
-  last a b c next = record { number = 0; place = next; a = a; b = b; capacity = c }
+pub at_first : (s : List ℕ) (row : ℕ → ℕ) {place : ℕ} {t : Taken} → place ≡ 0 → t ≡ taken s place row → t ≡ taken s 0 row
+at_first s row {t = t} e h = subst (λ (place : ℕ). t ≡ taken s place row) e h
 
-  abbrev linked : Taken → Taken → Taken → Link
-  linked a b c = accepted c.number (last a.value b.value c.value c.next) (λ e. no_link e c.next)
+pub link_in_file : (third : ℕ → ℕ) (place n : ℕ) {s s' : List ℕ} {l : Link} → s' ≡ s → l ≡ link_at third s' place n
+    → l ≡ link_at third s place n
+link_in_file third place n {l = l} e h = subst (λ (s : List ℕ). l ≡ link_at third s place n) e h
 
-  pub record Linked (r : Link) (a b c : Taken) : Type 0 where
-    pub is : linked a b c ≡ r
-    pub ends : c.number ≡ 0 → (a.value < n) × (b.value < n)
-    pub within : c.next ≤ length s
+pub links_in_file : (third : ℕ → ℕ) (m : ℕ) (r : Progress) {s s' : List ℕ} {p : Progress} → s' ≡ s → p ≡ read_links third s' m r
+    → p ≡ read_links third s m r
+links_in_file third m r {p = p} e h = subst (λ (s : List ℕ). p ≡ read_links third s m r) e h
 
-  at_c : (a b p q : ℕ) → a < n → b < n → q ≤ length s → {c : Taken} → Ways s q third c
-      → Linked (accepted c.number (last a b c.value c.next) (λ e. no_link e q)) (a_number a p) (a_number b q) c
-  at_c a b p q al bl l stops = record { is = refl; ends = λ z. absurd (omega arith); within = l }
-  at_c a b p q al bl l (goes z h) = record { is = refl; ends = λ z. (al, bl); within = h l }
+-- ---- a number, and on; the code has a number of its own for each refusal
+-- what a `?` gives back, in the numbers of the table
+pub exit_of : {T E A : Type 0} (told : Result T E → A) (r : Result T E) (e : E) (x : A)
+    → IsErrAnd r (λ f. f ≡ e) → told (Err e) ≡ x → told r ≡ x
+exit_of told r e x h q = let p = err_from_is_err_and r h in rw (p.1, p.2) q
 
-  at_b : (a p : ℕ) → a < n → p ≤ length s → {b : Taken} → Ways s p (other_end_row n a) b
-      → Linked (accepted b.number (taking s b.next third no_link (last a b.value)) (λ e. no_link e p))
-      (a_number a p) b (taken_next s b third)
-  at_b a p al l stops = record { is = refl; ends = λ z. absurd (omega arith); within = l }
-  at_b a p al l (goes {v} {next} z h) =
-      at_c a v p next al ((below v n).0 (passed_row (not (ltb v n)) 5 _ z)) (h l) (ways s next third)
+-- where a `map_err` puts the place to a refusal
+pub unmapped : {T E : Type 0} (r : Result T E) (x : T) → MatchResult r (λ y. ◌≡◌ {A = Result T Fault} (Ok x) (Ok y)) (λ e. ⊥) → r ≡ Ok x
+unmapped (Ok y) x h = cc
+unmapped (Err e) x h = absurd h
 
-  from_b : ℕ → ℕ → Link
-  from_b a p = taking s p (other_end_row n a) no_link λ b q. taking s q third no_link (last a b)
+pub mapped : {T : Type 0} (r : Result T Refusal) (f : Fault) (place : ℕ) {Q : Refusal → Type 0}
+    → MatchResult r (λ y. ◌≡◌ {A = Result T Fault} (Err f) (Ok y)) Q → ((e : Refusal) → Q e → f ≡ record { refusal = e; place = place })
+    → (r ≡ Err f.refusal) × (f.place ≡ place)
+mapped (Ok y) f place h fault = absurd (cc)
+mapped (Err e) f place h fault =
+    let q = fault e h in (ap (λ (f : Fault). Err f.refusal) (sym q), ap (λ (f : Fault). f.place) q)
 
-  at_a : place ≤ length s → {a : Taken} → Ways s place (end_row n) a → let b = taken_next s a (other_end_row n a.value) in
-      Linked (accepted a.number (from_b a.value a.next) (λ e. no_link e place)) a b (taken_next s b third)
-  unfolding from_b
-  at_a l stops = record { is = refl; ends = λ z. absurd (omega arith); within = l }
-  at_a l (goes {v} {next} z h) = at_b v next ((below v n).0 (passed_row (not (ltb v n)) 5 _ z)) (h l) (ways s next (other_end_row n v))
-
-  pub link_taken : place ≤ length s → (a b c : Taken) → a ≡ taken s place (end_row n) → b ≡ taken_next s a (other_end_row n a.value)
-      → c ≡ taken_next s b third → Linked (link_at third s place n) a b c
-  unfolding link_at from_b
-  link_taken l a b c ea eb ec =
-      let r = link_at third s place n in
-      let b_of : Taken → Taken = λ t. taken_next s t (other_end_row n t.value) in
-      subst (Linked r a b) (sym ec)
-      (subst (λ (t : Taken). Linked r a t (taken_next s t third)) (sym eb)
-      (subst (λ (t : Taken). Linked r t (b_of t) (taken_next s (b_of t) third)) (sym ea) (at_a l (ways s place (end_row n)))))
-
-  -- it does not reach past the end
-  pub link_within_lem : place ≤ length s → (link_at third s place n).place ≤ length s
-  link_within_lem l =
-      let a = taken s place (end_row n) in
-      let b = taken_next s a (other_end_row n a.value) in
-      let c = taken_next s b third in
-      let h = link_taken l a b c refl refl refl in
-      subst (λ (r : Link). r.place ≤ length s) h.is (go a b c c.number h.within)
+module _ (s : List ℕ) (place : ℕ) (row : ℕ → ℕ) where
+  pub passes : (v next : ℕ) → a_number v next ≡ taken s place row → row v ≡ 0
+  passes v next h = subst (λ (t : Taken). t.number ≡ 0 → row t.value ≡ 0) (sym h) (go (ways s place row)) refl
     where
-      go : (a b c : Taken) (e : ℕ) → c.next ≤ length s
-          → (accepted e (last a.value b.value c.value c.next) (λ e. no_link e c.next)).place ≤ length s
-      go a b c zero h = h
-      go a b c (suc e) h = h
+      go : {t : Taken} → Ways s place row t → t.number ≡ 0 → row t.value ≡ 0
+      go stops e = absurd (omega arith)
+      go (goes z l) e = z
 
--- ---- the file, by n, m and the links that were read
+  stops_there : (t : Taken) → t ≡ taken s place row → t.number ≢ 0 → t.next ≡ place
+  stops_there t h = subst (λ (t : Taken). t.number ≢ 0 → t.next ≡ place) (sym h) (go (ways s place row))
+    where
+      go : {t : Taken} → Ways s place row t → t.number ≢ 0 → t.next ≡ place
+      go stops n = refl
+      go (goes z l) n = absurd (n refl)
+
+  module _ {A : Type 0} (stop next : ℕ → ℕ → A) where
+    on : Taken → A
+    on t = accepted t.number (next t.value t.next) (λ e. stop e place)
+
+    pub goes_on : (v q : ℕ) → a_number v q ≡ taken s place row → next v q ≡ taking s place row stop next
+    unfolding on
+    goes_on v q h = ap on h
+
+    pub stops_at : (r : Refusal) (q : ℕ) → no_number (refusal_number r) q ≡ taken s place row
+        → stop (refusal_number r) q ≡ taking s place row stop next
+    unfolding on
+    stops_at r q h =
+        let there : q ≡ place = stops_there (no_number (refusal_number r) q) h (refusal_some r) in
+        ap (stop (refusal_number r)) there ∙ sym (refused_by (refusal_number r) (next 0 q) (λ e. stop e place) (refusal_some r)) ∙ ap on h
+
+    by_ways : (P : A → Type 0) → ((e : ℕ) → P (stop (suc e) place))
+        → ((v q : ℕ) → (place ≤ length s → q ≤ length s) → P (next v q)) → P (taking s place row stop next)
+    by_ways P stopped passed = go (ways s place row)
+      where
+        go : {t : Taken} → Ways s place row t → P (accepted t.number (next t.value t.next) (λ e. stop e place))
+        go (stops {e}) = stopped e
+        go (goes {v} {next} z h) = passed v next h
+
+-- ---- what has passed is within its limit
 nodes_row_lem : (v : ℕ) → nodes_row v ≡ 0 → v ≤ max_nodes
 nodes_row_lem v z = go (eqb v 0) (ltb max_nodes v) refl (passed_row (eqb v 0 || ltb max_nodes v) 3 0 z)
   where
@@ -170,70 +172,114 @@ nodes_row_lem v z = go (eqb v 0) (ltb max_nodes v) refl (passed_row (eqb v 0 || 
     go true d e q = absurd (true≢false q)
     go false d e q = ltb-false max_nodes v (e ∙ q)
 
+pub end_below : (s : List ℕ) (place n a next : ℕ) → a_number a next ≡ taken s place (end_row n) → a < n
+end_below s place n a next h = (below a n).0 (passed_row (not (ltb a n)) 5 _ (passes s place (end_row n) a next h))
+
+pub other_end_below : (s : List ℕ) (place n a b next : ℕ) → a_number b next ≡ taken s place (other_end_row n a) → b < n
+other_end_below s place n a b next h =
+    (below b n).0 (passed_row (not (ltb b n)) 5 _ (passes s place (other_end_row n a) b next h))
+
+pub nodes_within : (s : List ℕ) (place n next : ℕ) → a_number n next ≡ taken s place nodes_row → n ≤ max_nodes
+nodes_within s place n next h = nodes_row_lem n (passes s place nodes_row n next h)
+
+pub links_within : (s : List ℕ) (place m next : ℕ) → a_number m next ≡ taken s place links_row → m ≤ max_links
+links_within s place m next h =
+    (not_above max_links m).0 (passed_row (ltb max_links m) 4 _ (passes s place links_row m next h))
+
+-- ---- a link, by the three numbers
+module _ (third : ℕ → ℕ) (s : List ℕ) (place n : ℕ) where
+  abbrev last : ℕ → ℕ → ℕ → ℕ → Link
+  last a b c next = record { number = 0; place = next; a = a; b = b; capacity = c }
+
+  abbrev from_c : ℕ → ℕ → ℕ → Link
+  from_c a b q = taking s q third no_link (last a b)
+
+  abbrev from_b : ℕ → ℕ → Link
+  from_b a p = taking s p (other_end_row n a) no_link (from_c a)
+
+  pub a_stops : (r : Refusal) (q : ℕ) → no_number (refusal_number r) q ≡ taken s place (end_row n)
+      → no_link (refusal_number r) q ≡ link_at third s place n
+  unfolding link_at
+  a_stops = stops_at s place (end_row n) no_link from_b
+
+  module _ (a p : ℕ) (a_is : a_number a p ≡ taken s place (end_row n)) where
+    on_a : from_b a p ≡ link_at third s place n
+    unfolding link_at
+    on_a = goes_on s place (end_row n) no_link from_b a p a_is
+
+    pub b_stops : (r : Refusal) (q : ℕ) → no_number (refusal_number r) q ≡ taken s p (other_end_row n a)
+        → no_link (refusal_number r) q ≡ link_at third s place n
+    b_stops r q h = stops_at s p (other_end_row n a) no_link (from_c a) r q h ∙ on_a
+
+    module _ (b q : ℕ) (b_is : a_number b q ≡ taken s p (other_end_row n a)) where
+      on_b : from_c a b q ≡ link_at third s place n
+      on_b = goes_on s p (other_end_row n a) no_link (from_c a) b q b_is ∙ on_a
+
+      pub c_stops : (r : Refusal) (u : ℕ) → no_number (refusal_number r) u ≡ taken s q third
+          → no_link (refusal_number r) u ≡ link_at third s place n
+      c_stops r u h = stops_at s q third no_link (last a b) r u h ∙ on_b
+
+      pub link_taken : (c u : ℕ) → a_number c u ≡ taken s q third → last a b c u ≡ link_at third s place n
+      link_taken c u h = goes_on s q third no_link (last a b) c u h ∙ on_b
+
+  -- it does not reach past the end
+  pub link_within_lem : place ≤ length s → (link_at third s place n).place ≤ length s
+  unfolding link_at
+  link_within_lem l =
+      let P : Link → Type 0 = λ r. r.place ≤ length s in
+      by_ways s place (end_row n) no_link from_b P (λ e. l)
+      λ a p hp. by_ways s p (other_end_row n a) no_link (from_c a) P (λ e. hp l)
+      λ b q hq. by_ways s q third no_link (last a b) P (λ e. hq (hp l))
+      λ c u hu. hu (hq (hp l))
+
+-- ---- the file, by n, m and the links that were read
 module _ (third : ℕ → ℕ) (s : List ℕ) where
   abbrev links_on : ℕ → ℕ → ℕ → Progress
   links_on n m next = after (read_links third s m (going next (unread n m))) (ended s)
 
-  pub record Headed (r : Progress) (n m : Taken) : Type 0 where
-    pub is : accepted m.number (links_on n.value m.value m.next) (λ e. stopped e m.next) ≡ r
-    pub few : m.number ≡ 0 → (n.value ≤ max_nodes) × (m.value ≤ max_links)
-    pub within : m.next ≤ length s
+  abbrev from_m : ℕ → ℕ → Progress
+  from_m n next = taking s next links_row stopped (links_on n)
 
-  at_m : (n p : ℕ) → n ≤ max_nodes → p ≤ length s → {m : Taken} → Ways s p links_row m
-      → Headed (accepted m.number (links_on n m.value m.next) (λ e. stopped e p)) (a_number n p) m
-  at_m n p nl l stops = record { is = refl; few = λ z. absurd (omega arith); within = l }
-  at_m n p nl l (goes {v} z h) =
-      record { is = refl; few = λ y. (nl, (not_above max_links v).0 (passed_row (ltb max_links v) 4 _ z)); within = h l }
+  pub n_stops : (r : Refusal) (q : ℕ) → no_number (refusal_number r) q ≡ taken s 0 nodes_row
+      → stopped (refusal_number r) q ≡ read_all third s
+  unfolding read_all
+  n_stops = stops_at s 0 nodes_row stopped from_m
 
-  at_n : {n : Taken} → Ways s 0 nodes_row n
-      → Headed (accepted n.number (taking s n.next links_row stopped (links_on n.value)) (λ e. stopped e 0))
-      n (taken_next s n links_row)
-  at_n stops = record { is = refl; few = λ z. absurd (omega arith); within = omega arith }
-  at_n (goes {v} {next} z h) = at_m v next (nodes_row_lem v z) (h (omega arith)) (ways s next links_row)
-
-  module _ (n m : Taken) (n_is : n ≡ taken s 0 nodes_row) (m_is : m ≡ taken_next s n links_row) where
-    pub head_taken : Headed (read_all third s) n m
+  module _ (n p : ℕ) (n_is : a_number n p ≡ taken s 0 nodes_row) where
+    on_n : from_m n p ≡ read_all third s
     unfolding read_all
-    head_taken =
-        let r = read_all third s in
-        subst (Headed r n) (sym m_is) (subst (λ (t : Taken). Headed r t (taken_next s t links_row)) (sym n_is) (at_n (ways s 0 nodes_row)))
+    on_n = goes_on s 0 nodes_row stopped from_m n p n_is
 
-    module _ (z : m.number ≡ 0) (p : Progress)
-        (p_is : p ≡ read_links third s m.value (going m.next (unread n.value m.value))) where
-      to_links : after p (ended s) ≡ read_all third s
-      to_links =
-          ap (λ (r : Progress). after r (ended s)) p_is
-          ∙ sym (accepted_by m.number (links_on n.value m.value m.next) (λ e. stopped e m.next) z) ∙ head_taken.is
+    pub m_stops : (r : Refusal) (q : ℕ) → no_number (refusal_number r) q ≡ taken s p links_row
+        → stopped (refusal_number r) q ≡ read_all third s
+    m_stops r q h = stops_at s p links_row stopped (links_on n) r q h ∙ on_n
 
-      pub links_refused : p.number ≢ 0 → p ≡ read_all third s
-      links_refused h = sym (refused_by p.number (ended s p.place p.network) (λ e. p) h) ∙ to_links
+    module _ (m q : ℕ) (m_is : a_number m q ≡ taken s p links_row) where
+      on_m : (r : Progress) → r ≡ read_links third s m (going q (unread n m)) → after r (ended s) ≡ read_all third s
+      on_m r h =
+          ap (λ (r : Progress). after r (ended s)) h ∙ goes_on s p links_row stopped (links_on n) m q m_is ∙ on_n
 
-      module _ (y : p.number ≡ 0) where
-        by_end : ended s p.place p.network ≡ read_all third s
-        by_end = sym (accepted_by p.number (ended s p.place p.network) (λ e. p) y) ∙ to_links
+      pub links_stop : (r : Refusal) (u : ℕ) → stopped (refusal_number r) u ≡ read_links third s m (going q (unread n m))
+          → stopped (refusal_number r) u ≡ read_all third s
+      links_stop r u h =
+          let stop = stopped (refusal_number r) u in
+          sym (refused_by (refusal_number r) (ended s u no_network) (λ e. stop) (refusal_some r)) ∙ on_m stop h
 
-        pub bytes_follow_lem : p.place < length s → stopped 9 p.place ≡ read_all third s
-        bytes_follow_lem l = rw (lt-ltb p.place (length s) l) at by_end
+      module _ (net : Network) (u : ℕ) (net_is : going u net ≡ read_links third s m (going q (unread n m))) where
+        pub bytes_follow_lem : u < length s → stopped 9 u ≡ read_all third s
+        bytes_follow_lem l = let h = on_m (going u net) net_is in rw (lt-ltb u (length s) l) at h
 
-        pub all_done : length s ≤ p.place → p ≡ read_all third s
-        all_done l =
-            (λ i. record { number = y i; place = p.place; network = p.network }) ∙ (rw (le-ltb p.place (length s) l) at by_end)
+        pub all_done : length s ≤ u → going u net ≡ read_all third s
+        all_done l = let h = on_m (going u net) net_is in rw (le-ltb u (length s) l) at h
 
 -- ---- the reply
-module _ (third : ℕ → ℕ) (s : List ℕ) (p : Progress) (p_is : p ≡ read_all third s) where
+module _ (third : ℕ → ℕ) (s : List ℕ) where
   as_reading : Progress → Reading
   as_reading r = record { number = r.number; place = accepted r.number 0 (λ e. r.place); network = r.network }
 
-  reply : as_reading p ≡ read_by third s
+  pub reads_all : (r : Result Network Fault) (place : ℕ) → as_progress place r ≡ read_all third s → as_read r ≡ read_by third s
   unfolding as_reading
-  reply = ap as_reading p_is
-
-  pub reads_network : p.number ≡ 0 → record { number = 0; place = 0; network = p.network } ≡ read_by third s
-  unfolding as_reading
-  reads_network z = sym (ap (λ (e : ℕ). record { number = e; place = accepted e 0 (λ e. p.place); network = p.network }) z) ∙ reply
-
-  pub reads_fault : p.number ≢ 0 → record { number = p.number; place = p.place; network = p.network } ≡ read_by third s
-  unfolding as_reading
-  reads_fault n =
-      ap (λ (place : ℕ). record { number = p.number; place = place; network = p.network })
-      (sym (refused_by p.number 0 (λ e. p.place) n)) ∙ reply
+  reads_all (Ok net) place h = ap as_reading h
+  reads_all (Err f) place h =
+      ap (λ (place : ℕ). record { number = refusal_number f.refusal; place = place; network = no_network })
+      (sym (refused_by (refusal_number f.refusal) 0 (λ e. f.place) (refusal_some f.refusal))) ∙ ap as_reading h

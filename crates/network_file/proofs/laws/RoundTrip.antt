@@ -1,15 +1,10 @@
 -- A network's file is read back.
-use Prim.Native.Nat.{ℕ, zero, suc, ◌+◌, ◌-◌, ◌^◌, ◌≤◌, ◌<◌}
-use Rattle.std.specs.Prelude.{◌≡◌, ◌≢◌, true, take, drop, set, replicate}
-use Rattle.std.proofs.Math.Path.{refl, ap}
-use Rattle.std.proofs.Common.{sym, ◌∙◌, take-append-drop, length-drop, drop_at, take-suc, length-take-le}
-use mathlib.Core.List.{List, [], ◌++◌, append_assoc, append-nil}
-use native.Mathlib.Omega.{arith}
+use Rattle.std.specs.Prelude.{ℕ, zero, suc, ◌+◌, ◌-◌, ◌^◌, ◌≤◌, ◌<◌, List, [], ◌++◌, length, take, drop, set, replicate, ◌≡◌, ◌≢◌, true}
+use Rattle.std.proofs.Common.{refl, sym, ap, ◌∙◌, arith, lt-ltb, le-ltb, ne_eqb, append_assoc, append-nil, length-append, length-drop}
+use Rattle.std.proofs.Common.{take-append-drop, drop_at, take-suc, length-take-le}
 use Rattle.std.proofs.Math.Decide.{ℕ_discrete}
-use Rattle.std.proofs.Math.ListN.{length, length-append}
 use Rattle.std.proofs.lemmas.List.{set_at}
 use Rattle.std.proofs.Math.Seq.{append_snoc}
-use borrow.Author.Tests.{lt-ltb, le-ltb, ne_eqb}
 use Rattle.base.specs.Basics.{at, blank}
 use Rattle.base.proofs.laws.TestLaws.{shown, head, rest}
 use Rattle.network.specs.Limits.{max_nodes, max_links, max_capacity, max_groups}
@@ -21,7 +16,7 @@ use Rattle.network_file.specs.Reading.{nodes_row, links_row, end_row, other_end_
 use Rattle.network_file.specs.Reading.{read_link, after, read_links, read_all}
 use Rattle.network_file.specs.Writing.{link_bytes, file_of}
 use Rattle.network_file.proofs.laws.NumberLaws.{read_written_number}
-use Rattle.network_file.specs.declared.Progress.{Progress}
+use Rattle.network_file.specs.Reading.{Progress}
 use Rattle.base.proofs.laws.BlankLaws.{blank_is}
 
 -- ---- a number that was written at a place is taken there

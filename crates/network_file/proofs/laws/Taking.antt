@@ -9,8 +9,8 @@ use Rattle.network_file.specs.Reading.{nodes_row, links_row, end_row, other_end_
 use Rattle.network_file.specs.Faults.{Stands, Field, nodes, links, end, other_end, capacity, number, Wrong, four, five, six, six_later}
 use Rattle.network_file.specs.Faults.{seven, eight, Bad, one, two, three, by_row}
 use Rattle.network_file.proofs.laws.NumberLaws.{Seen, sees_one, sees_two, sees_three, sees_value, seen, again}
-use Rattle.network_file.specs.declared.Number.{Number}
-use Rattle.network_file.specs.declared.Taken.{Taken}
+use Rattle.network_file.specs.Number.{Number}
+use Rattle.network_file.specs.Reading.{Taken}
 
 -- the reader's row of each number
 abbrev pub field_row : Field → ℕ → ℕ

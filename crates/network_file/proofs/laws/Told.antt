@@ -1,11 +1,7 @@
 -- Reading a file, in one pass from its first number to its end: it stops at a fault of `Faults`, or it ends with a network within the
 -- limits, nothing is left, and, of a file of bytes, the network's file is what was read.
-use Prim.Native.Nat.{ℕ, zero, suc, ◌+◌, ◌-◌, ◌≤◌, ◌<◌}
-use Rattle.std.specs.Prelude.{◌≡◌, refl, ◌≢◌, Bool, true, false, length, take, ltb}
-use Rattle.std.proofs.Common.{sym, ap₂, ◌∙◌, take_all, ltb-true, ltb-false}
-use Rattle.std.proofs.Math.Path.{ap, subst}
-use mathlib.Core.List.{List, ◌++◌, append_assoc, append-nil}
-use native.Mathlib.Omega.{arith}
+use Rattle.std.specs.Prelude.{ℕ, zero, suc, ◌+◌, ◌-◌, ◌≤◌, ◌<◌, List, ◌++◌, length, take, ◌≡◌, ◌≢◌, Bool, true, false, ltb}
+use Rattle.std.proofs.Common.{refl, sym, ap, ap₂, subst, ◌∙◌, arith, ltb-true, ltb-false, append_assoc, append-nil, take_all}
 use Rattle.base.specs.Basics.{pick}
 use Rattle.base.specs.Checks.{accepted}
 use Rattle.network.specs.Limits.{max_nodes, max_links, max_capacity}
@@ -19,8 +15,8 @@ use Rattle.network_file.specs.Faults.{nodes, links, end, other_end, capacity, nu
 use Rattle.network_file.proofs.laws.Taking.{nodes_passed, links_passed, end_passed, other_end_passed, capacity_passed, by_taking}
 use Rattle.network_file.proofs.laws.Taking.{stands_written}
 use Rattle.network_file.proofs.laws.Filling.{Filled, unread_filled, link_filled, bytes_more, filled_within}
-use Rattle.network_file.specs.declared.Link.{Link}
-use Rattle.network_file.specs.declared.Progress.{Progress}
+use Rattle.network_file.specs.Reading.{Link}
+use Rattle.network_file.specs.Reading.{Progress}
 
 -- ---- one link
 pub record LinkStands (s : List ℕ) (place n a b c next : ℕ) : Type 0 where

@@ -1,25 +1,33 @@
 -- Writing in the steps of the code: numbers and links, one behind the other.
-use Prim.Native.Nat.{ℕ, zero, suc, ◌+◌, ◌≤◌, ◌<◌}
-use Rattle.std.specs.Prelude.{◌≡◌}
-use Rattle.std.proofs.Math.Path.{refl, ap}
-use Rattle.std.proofs.Common.{sym, ◌∙◌, arith, lt-ltb, le-ltb}
-use mathlib.Core.List.{List, ◌++◌}
+use Rattle.std.specs.Prelude.{ℕ, zero, suc, ◌+◌, ◌≤◌, ◌<◌, ◌≡◌, List, [], ◌++◌, length}
+use Rattle.std.proofs.Common.{refl, sym, ap, ap₂, subst, ◌∙◌, arith, lt-ltb, le-ltb, add-one, length-append}
+use Rattle.std.proofs.lemmas.List.Edits.{sets}
 use Rattle.std.proofs.Math.Decide.{ℕ_discrete}
-use Rattle.std.proofs.Math.Numerals.{add-one}
-use Rattle.std.proofs.Math.ListN.{length, length-append}
-use Rattle.std.proofs.Math.Seq.{sets, length-sets}
+use Rattle.std.proofs.Math.Seq.{length-sets}
 use Rattle.base.specs.Basics.{at}
 use Rattle.network.specs.declared.Network.{Network}
+use Rattle.network.proofs.laws.NetworkLaws.{nodes_le, links_le}
 use Rattle.network_file.specs.Number.{number_bytes}
 use Rattle.network_file.specs.Writing.{bytes_of_link, link_bytes, file_of, file_write_of, file_written_to}
-use Rattle.network_file.specs.declared.FileWritten.{FileWritten}
-use Rattle.base.proofs.laws.ListLaws.{sets_append, three_long, three_runs}
+use Rattle.network_file.specs.Writing.{FileWritten}
+use Rattle.network_file.specs.code.Writers.{HasRoom, Wrote}
+use Rattle.network_file.specs.declared.writer.Writer.{Writer}
+use Rattle.network_file.proofs.laws.LengthLaws.{file_most}
+use Rattle.base.proofs.laws.ListLaws.{sets_append, three_long}
+
+-- ---- what lengths are within
+pub ruleset limits = (nodes_le, links_le)
 
 -- ---- the links
 abbrev pub link_of : Network → ℕ → List ℕ
 link_of net k = bytes_of_link (at net.a k) (at net.b k) (at net.capacity k)
 
 module _ (net : Network) where
+  -- a link that was read by its number
+  pub link_read : (k : ℕ) {a b capacity : ℕ} → a ≡ at net.a k → b ≡ at net.b k → capacity ≡ at net.capacity k
+      → bytes_of_link a b capacity ≡ link_of net k
+  link_read k a b capacity = rw (a, b, capacity) refl
+
   pub links_more : (k : ℕ) → length (link_bytes net k) + length (link_of net k) ≡ length (link_bytes net (k + 1))
   unfolding link_bytes
   links_more k = rw add-one (sym (length-append (link_bytes net k) (link_of net k)))
@@ -34,39 +42,53 @@ module _ (net : Network) where
       go (yes e) ih = rw e (omega (arith, length-append (link_bytes net m) (link_of net m)))
       go (no n) ih = omega (arith, ih (omega arith), length-append (link_bytes net m) (link_of net m))
 
--- ---- the loop: k links are written from `place` on
-pub record LinksWritten (net : Network) (before : List ℕ) (place : ℕ) (out : List ℕ) (next k : ℕ) : Type 0 where
+-- ---- one run of bytes behind another
+pub none_wrote : (w : Writer) → Wrote w w []
+none_wrote w = record { buffer = refl; place = omega arith; out = refl }
+
+pub same_size : {u v : Writer} {xs : List ℕ} → Wrote u v xs → length v.out.now ≡ length u.out.now
+same_size {u} {v} {xs} h = ap length h.out ∙ length-sets u.out.now u.place xs
+
+pub wrote_more : {u v w : Writer} {xs ys : List ℕ} → Wrote u v xs → Wrote v w ys → Wrote u w (xs ++ ys)
+wrote_more {u} {v} {w} {xs} {ys} h g =
+    record {
+      buffer = g.buffer ∙ h.buffer;
+      place = omega (arith, h.place, g.place, length-append xs ys);
+      out =
+          g.out ∙ ap (λ (l : List ℕ). sets l v.place ys) h.out
+          ∙ ap (λ (place : ℕ). sets (sets u.out.now u.place xs) place ys) h.place ∙ sets_append xs ys u.out.now u.place;
+    }
+
+-- the room of the later run is left behind the first
+pub room_behind : {u v : Writer} {xs ys : List ℕ} → Wrote u v xs → HasRoom u (xs ++ ys) → HasRoom v ys
+room_behind {u} {v} {xs} {ys} h r = record { room = omega (arith, r.room, h.place, same_size h, length-append xs ys) }
+
+pub room_first : {u : Writer} (xs ys : List ℕ) → HasRoom u (xs ++ ys) → HasRoom u xs
+room_first xs ys r = record { room = omega (arith, r.room, length-append xs ys) }
+
+-- ---- the loop: k links are written
+pub record LinksWritten (net : Network) (first now : Writer) (k : ℕ) : Type 0 where
   pub some : k ≤ net.links
-  pub next_is : next ≡ place + length (link_bytes net k)
-  pub out_is : out ≡ sets before place (link_bytes net k)
+  pub wrote : Wrote first now (link_bytes net k)
 
-pub none_written : (net : Network) (before : List ℕ) (place : ℕ) → LinksWritten net before place before place 0
+pub none_written : (net : Network) (w : Writer) → LinksWritten net w w 0
 unfolding link_bytes
-none_written net before place = record { some = omega arith; next_is = omega arith; out_is = refl }
+none_written net w = record { some = omega arith; wrote = none_wrote w }
 
-module _ {net : Network} {before : List ℕ} {place : ℕ} {out : List ℕ} {next k : ℕ} (h : LinksWritten net before place out next k) where
-  pub same_places : length out ≡ length before
-  same_places = ap length h.out_is ∙ length-sets before place (link_bytes net k)
-
-  pub all_written : net.links ≤ k → out ≡ sets before place (link_bytes net net.links)
-  all_written l = let e : k ≡ net.links = omega (arith, h.some) in h.out_is ∙ ap (λ (j : ℕ). sets before place (link_bytes net j)) e
+module _ {net : Network} {first now : Writer} {k : ℕ} (h : LinksWritten net first now k) where
+  pub all_written : net.links ≤ k → Wrote first now (link_bytes net net.links)
+  all_written l =
+      let e : k ≡ net.links = omega (arith, h.some) in
+      subst (λ (j : ℕ). Wrote first now (link_bytes net j)) e h.wrote
 
   module _ (l : k < net.links) where
-    pub has_places : place + length (link_bytes net net.links) ≤ length before → next + length (link_of net k) ≤ length out
-    has_places fits = omega (arith, h.next_is, same_places, links_up net net.links k l)
+    pub has_places : HasRoom first (link_bytes net net.links) → HasRoom now (link_of net k)
+    has_places r =
+        record { room = omega (arith, r.room, h.wrote.place, same_size h.wrote, links_up net net.links k l) }
 
-    pub one_written : (now : List ℕ) (behind : ℕ) → behind ≡ next + length (link_of net k) → now ≡ sets out next (link_of net k)
-        → LinksWritten net before place now behind (k + 1)
+    pub one_written : (behind : Writer) → Wrote now behind (link_of net k) → LinksWritten net first behind (k + 1)
     unfolding link_bytes
-    one_written now behind b e =
-        record {
-          some = omega arith;
-          next_is = omega (arith, h.next_is, links_more net k);
-          out_is =
-              e ∙ ap (λ (r : List ℕ). sets r next (link_of net k)) h.out_is
-              ∙ ap (λ (j : ℕ). sets (sets before place (link_bytes net k)) j (link_of net k)) h.next_is
-              ∙ sets_append (link_bytes net k) (link_of net k) before place ∙ rw add-one;
-        }
+    one_written behind g = record { some = omega arith; wrote = rw add-one (wrote_more h.wrote g) }
 
 -- ---- the file
 abbrev written : ℕ → ℕ → FileWritten
@@ -78,21 +100,30 @@ module _ (net : Network) where
   unfolding file_of
   file_long = three_long (number_bytes net.nodes) (number_bytes net.links) (link_bytes net net.links)
 
+  pub file_room : (w : Writer) (size : ℕ) → w.place ≡ 0 → size ≡ length (file_of net) → size ≤ length w.out.now
+      → HasRoom w (number_bytes net.nodes ++ (number_bytes net.links ++ link_bytes net net.links))
+  unfolding file_of
+  file_room w size z e h = record { room = omega arith }
+
   -- too short a buffer is refused and stays; any other holds the file
   pub refuses_short : (l : List ℕ) → length l < length (file_of net)
       → (written 18 0 ≡ file_write_of net (length l)) × (l ≡ file_written_to net l)
   unfolding file_write_of file_written_to
   refuses_short l h = rw (lt-ltb (length l) (length (file_of net)) h) (refl, refl)
 
-  pub fills_front : (second third : ℕ) (l l₁ l₂ l₃ : List ℕ) → length (file_of net) ≤ length l
-      → second ≡ 0 + length (number_bytes net.nodes) → third ≡ second + length (number_bytes net.links)
-      → l₁ ≡ sets l 0 (number_bytes net.nodes) → l₂ ≡ sets l₁ second (number_bytes net.links)
-      → l₃ ≡ sets l₂ third (link_bytes net net.links)
-      → (written 0 (length (file_of net)) ≡ file_write_of net (length l)) × (l₃ ≡ file_written_to net l)
+  pub fills_front : (l : List ℕ) (size : ℕ) (w₀ w₁ w₂ w₃ : Writer) → size ≡ length (file_of net) → size ≤ length l
+      → w₀.place ≡ 0 → w₀.out.now ≡ l → Wrote w₀ w₁ (number_bytes net.nodes) → Wrote w₁ w₂ (number_bytes net.links)
+      → Wrote w₂ w₃ (link_bytes net net.links)
+      → (written 0 size ≡ file_write_of net (length l)) × (w₃.out.now ≡ file_written_to net l) × (w₃.out.ghost_name ≡ w₀.out.ghost_name)
   unfolding file_write_of file_written_to file_of
-  fills_front second third l l₁ l₂ l₃ h s t e₁ e₂ e₃ =
-      rw (le-ltb (length l) (length (file_of net)) h) (
-        refl,
-        three_runs (number_bytes net.nodes) (number_bytes net.links)
-            (link_bytes net net.links) 0 second third s t l l₁ l₂ l₃ e₁ e₂ e₃,
+  fills_front l size w₀ w₁ w₂ w₃ q h z e n m k =
+      let all = wrote_more n (wrote_more m k) in
+      let fits : length (file_of net) ≤ length l = omega arith in
+      rw (le-ltb (length l) (length (file_of net)) fits) (
+        ap (written 0) q,
+        all.out ∙ ap₂ (λ (l : List ℕ) (place : ℕ). sets l place (file_of net)) e z,
+        all.buffer,
       )
+
+-- what a file's length is, and within
+pub ruleset file_limits = (nodes_le, links_le, file_most, file_long)

@@ -1,9 +1,7 @@
 -- Sides are held as 64-bit words (docs/SCOPE.md, 3): the bits of the words that the bitwise operations give, and of
 -- 2 ^ i and 2 ^ n - 1.
-use Rattle.std.specs.Prelude.{◌≡◌, refl, Bool, ◌&&◌, ◌||◌, ltb}
-use Rattle.std.proofs.Common.{sym, ◌∙◌, one-mul, arith, lit<, pow_pos, shl_exact, eq-eqb, ne_eqb, lt-ltb, le-ltb}
-use Rattle.std.proofs.Math.Path.{ap}
-use Prim.Native.Nat.{ℕ, zero, suc, ◌*◌, ◌-◌, ◌/◌, ◌%◌, ◌^◌, ◌<◌}
+use Rattle.std.proofs.Common.{◌≡◌, refl, Bool, ◌&&◌, ◌||◌, ltb, sym, ◌∙◌, one-mul, arith, lit<, pow_pos, shl_exact, eq-eqb}
+use Rattle.std.proofs.Common.{ne_eqb, lt-ltb, le-ltb, ap, ℕ, zero, suc, ◌*◌, ◌-◌, ◌/◌, ◌%◌, ◌^◌, ◌<◌}
 use Rattle.std.specs.Int.Bits.{bit_and, bit_or, bit_xor}
 use Rattle.std.proofs.lemmas.Nat.{and_shr, or_shr, xor_shr, and_mod, or_mod, xor_mod}
 use Rattle.std.proofs.Math.Dec.{eqb, eqb-suc-suc, leb-suc-suc}

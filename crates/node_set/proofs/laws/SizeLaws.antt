@@ -1,9 +1,7 @@
 -- How many nodes a side has (docs/SCOPE.md, 6): the size of a set and its lowest node, as counts of the digits of its word.
-use Rattle.std.specs.Prelude.{◌≡◌, refl, ◌≢◌, Bool, true, not}
-use Rattle.std.proofs.Common.{sym, ◌∙◌, true≢false, lt_of_not-le, arith, lt-ltb}
-use Rattle.std.proofs.Math.Path.{ap}
+use Rattle.std.proofs.Common.{◌≡◌, refl, ◌≢◌, Bool, true, not, sym, ◌∙◌, true≢false, lt_of_not-le, arith, lt-ltb, ap, ℕ, zero}
+use Rattle.std.proofs.Common.{suc, ◌+◌, ◌/◌, ◌%◌, ◌^◌, ◌≤◌, ◌<◌}
 use Rattle.std.proofs.Math.Bool.{false}
-use Prim.Native.Nat.{ℕ, zero, suc, ◌+◌, ◌/◌, ◌%◌, ◌^◌, ◌≤◌, ◌<◌}
 use Rattle.std.specs.Int.Count.{ones_in, ones, ones_step, count_trailing_zeros, under}
 use Rattle.std.proofs.Math.Dec.{eqb}
 use Rattle.base.proofs.laws.Bools.{bool1}

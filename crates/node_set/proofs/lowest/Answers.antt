@@ -1,9 +1,6 @@
 -- `node_set::lowest` meets its contract.
-use Prim.Native.Nat.{ℕ, ◌≤◌}
-use native.Mathlib.Omega.{arith}
-use lib.Count.{trailing_le}
-use mir.Syntax.{w64}
-use mir.Val.{Fits}
+use Rattle.std.proofs.Common.{ℕ, ◌≤◌, arith, w64, Fits}
+use Rattle.std.proofs.lemmas.Nat.{trailing_le}
 use Rattle.node_set.specs.Set.{width}
 use Rattle.node_set.proofs.laws.SizeLaws.{lowest_is}
 use Rattle.node_set.proofs.lowest.Goals as goal

@@ -1,6 +1,6 @@
 -- Previews, headroom and writing by worked examples on resort A's plan. Opening, change, undo and pair have theirs
 -- among the readings.
-use Rattle.std.specs.Prelude.{◌≡◌, refl, [], ◌∷◌, ◌++◌, replicate, pos, negsuc}
+use Rattle.std.proofs.Common.{◌≡◌, refl, [], ◌∷◌, ◌++◌, replicate, pos, negsuc}
 use Rattle.node_set.specs.Set.{size}
 use Rattle.base.specs.Sum.{sum}
 use Rattle.min_cut.specs.Cut.{cut_value}
@@ -12,7 +12,7 @@ use Rattle.network_file.specs.Number.{group_bytes, number_bytes}
 use Rattle.network_file.specs.Writing.{link_bytes, file_of}
 use Rattle.cut_tree.specs.Rule.{moved, stepped, rule_by, least_cut}
 use Rattle.cut_tree.specs.Rebuild.{kept_by, kept_or_least_by, rebuilt_by, rebuilt}
-use Rattle.cut_tree.specs.declared.PairAnswer.TheVariants.{Found}
+use Rattle.cut_tree.specs.Path.{Found}
 use Rattle.cut_tree.specs.Path.{reaches, climb, lightest_of, lightest_on, side_of, answer}
 use Rattle.cut_tree.specs.LightestEdge.{lightest_among}
 use Rattle.text.specs.Text.{digits, text_of}

@@ -1,5 +1,5 @@
 -- Resort A (docs/SCOPE.md, 10): its file, and its plan as it is opened. Other examples start here.
-use Rattle.std.specs.Prelude.{ℕ, ◌-◌, ◌≡◌, refl, List, [], ◌∷◌, ◌++◌, length, replicate}
+use Rattle.std.proofs.Common.{ℕ, ◌-◌, ◌≡◌, refl, List, [], ◌∷◌, ◌++◌, length, replicate}
 use Rattle.base.specs.Sum.{sum}
 use Rattle.min_cut.specs.Cut.{cut_value}
 use Rattle.min_cut.specs.FirstWord.{first, least_min_cut}

@@ -1,6 +1,6 @@
 -- Soundness by worked plans: resort A's opening is sound, plans at the limits are, and for each clause of the
 -- list a plan that breaks that clause alone is not.
-use Rattle.std.specs.Prelude.{ℕ, zero, suc, ◌*◌, ◌≡◌, refl, Bool, true, not, ◌&&◌, List, [], ◌∷◌, set, replicate, eqb}
+use Rattle.std.proofs.Common.{ℕ, zero, suc, ◌*◌, ◌≡◌, refl, Bool, true, not, ◌&&◌, List, [], ◌∷◌, set, replicate, eqb}
 use Rattle.base.specs.Word.{holds}
 use Rattle.base.specs.Basics.{all, every, blank}
 use Rattle.network.specs.Limits.{max_nodes, max_links}

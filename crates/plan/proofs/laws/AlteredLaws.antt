@@ -1,7 +1,5 @@
 -- A capacity of a sound plan set within the limits: the plan that is then made is sound, if the stack fits.
-use Rattle.std.specs.Prelude.{◌≡◌, true, ℕ, ◌≤◌, ◌<◌}
-use Rattle.std.proofs.Math.Path.{refl}
-use Rattle.std.proofs.Common.{sym}
+use Rattle.std.proofs.Common.{◌≡◌, true, ℕ, ◌≤◌, ◌<◌, refl, sym}
 use Rattle.base.proofs.laws.TestLaws.{none, ◌&◌, test}
 use Rattle.network.specs.Limits.{max_capacity}
 use Rattle.network.specs.Network.{network_fits, with_capacity}

@@ -1,22 +1,20 @@
 -- Pair and headroom: one law for each way through the code.
-use Rattle.std.proofs.Math.Path.{◌≡◌}
-use Rattle.std.specs.Prelude.{refl, ◌≢◌, Bool, true, false, not, ◌&&◌, List, [], ◌∷◌, ℕ, ◌≤◌, ◌<◌, eqb, pos, ◌-ℤ◌}
-use Rattle.std.proofs.Common.{ap, ◌∙◌}
+use Rattle.std.proofs.Common.{◌≡◌, refl, ◌≢◌, Bool, true, false, not, ◌&&◌, List, [], ◌∷◌, ℕ, ◌≤◌, ◌<◌, eqb, pos, ◌-ℤ◌, ap, ◌∙◌, arith}
+use Rattle.std.proofs.Common.{ltb, lt-ltb, le-ltb, ne_eqb}
 use Rattle.std.proofs.Math.Bool.{and_comm}
-use native.Mathlib.Omega.{arith}
-use Rattle.std.proofs.Math.Dec.{ltb}
-use borrow.Author.Tests.{lt-ltb, le-ltb, ne_eqb, not-false}
+use Rattle.std.proofs.lemmas.Bool.{not-false}
 use Rattle.base.proofs.laws.TestLaws.{eqb_turned}
 use Rattle.base.specs.Checks.{Row, row, check, chain, accepted}
 use Rattle.network.specs.Limits.{max_value}
 use Rattle.cut_tree.specs.Path.{lightest_on, answer, query_of, number_of, weight_of}
-use Rattle.cut_tree.specs.declared.PairAnswer.{PairAnswer}
-use Rattle.cut_tree.specs.declared.PairAnswer.TheVariants.{Refused, Found}
+use Rattle.cut_tree.specs.Path.{PairAnswer}
+use Rattle.cut_tree.specs.Path.{Refused, Found}
 use Rattle.plan.specs.Plan.{sound}
 use Rattle.plan.specs.Calls.{max_demand, node_rows, pair_number, pair_of, headroom_by, headroom_number, headroom_of, no_headroom}
 use Rattle.plan.proofs.laws.SoundFacts.{sound_weight}
 use Rattle.plan.specs.declared.Plan.{Plan}
 use Rattle.plan.specs.declared.HeadroomReply.{HeadroomReply}
+use Rattle.plan.proofs.laws.SoundFacts.{sound_climbs}
 
 -- ---- pair
 module _ (p : Plan) (s t : ℕ) where
@@ -97,3 +95,8 @@ pub rows_turned : (p : Plan) (s t : ℕ) (later : List Row) → chain (node_rows
 rows_turned p s t later =
     let n = p.network.nodes in
     rw (and_comm (ltb s n) (ltb t n), eqb_turned s t)
+
+-- ---- what the code of each call needs
+pub ruleset pairing = (pair_unsound, pair_query, sound_climbs)
+
+pub ruleset headrooms = (headroom_refused, found_weight, headroom_over, headroom_found)

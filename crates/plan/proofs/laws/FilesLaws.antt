@@ -1,20 +1,21 @@
 -- Opening, by what the file reads as; writing, by what writing the network gives.
-use Rattle.std.specs.Prelude.{◌≡◌, refl, ◌≢◌, true, false, ℕ, zero, suc, List}
-use Rattle.std.proofs.Math.Path.{sym}
-use Rattle.std.proofs.Common.{ap, ◌∙◌}
-use Rattle.std.proofs.Math.ListN.{length}
+use Rattle.std.proofs.Common.{◌≡◌, refl, ◌≢◌, true, false, ℕ, zero, suc, List, length, Result, Ok, Err, sym, ap, ◌∙◌}
 use Rattle.base.specs.Checks.{accepted}
-use Rattle.network.specs.Network.{network_fits}
+use Rattle.network.specs.declared.refusals.Refusal.{Refusal}
 use Rattle.network_file.specs.Reading.{read_file}
+use Rattle.network_file.specs.Results.{as_written as file_written}
 use Rattle.network_file.specs.Writing.{file_of, file_write_number, file_write_of, file_written_to}
-use Rattle.network_file.proofs.laws.FileLaws.{accepts}
-use Rattle.network_file.specs.declared.Reading.{Reading}
-use Rattle.network_file.specs.declared.FileWritten.{FileWritten}
+use Rattle.network_file.specs.Reading.{Reading}
+use Rattle.network_file.specs.Writing.{FileWritten}
 use Rattle.plan.specs.Plan.{no_plan, sound}
 use Rattle.plan.specs.Calls.{fresh, opened, open_of, write_number, write_of, written_to}
 use Rattle.base.proofs.laws.ChecksLaws.{refused_by}
 use Rattle.plan.specs.declared.Plan.{Plan}
-use Rattle.plan.specs.declared.Written.{Written}
+use Rattle.plan.specs.Calls.{Written}
+use Rattle.plan.specs.Results.{as_written}
+use Rattle.network.proofs.laws.RefusalLaws.{refusal_some}
+use Rattle.plan.proofs.laws.SoundFacts.{sound_network}
+use Rattle.network.proofs.laws.NetworkLaws.{nodes_le}
 
 -- ---- opening
 module _ (file : List ℕ) (r : Reading) (e : r ≡ read_file file) where
@@ -31,9 +32,6 @@ module _ (file : List ℕ) (r : Reading) (e : r ≡ read_file file) where
     pub open_accepted : open_of file ≡ record { number = 0; place = 0; plan = fresh r.network }
     unfolding open_of
     open_accepted = sym (ap opened e) ∙ rw z
-
-    pub open_within : network_fits r.network ≡ true
-    open_within = rw e (accepts file (sym (ap (λ (x : Reading). x.number) e) ∙ z)).fits
 
 -- ---- writing: 19 comes before the row of writing the network
 abbrev reply : FileWritten → Written
@@ -69,3 +67,15 @@ module _ (p : Plan) where
     pub left_written : (buffer : List ℕ) → written_to p buffer ≡ file_written_to p.network buffer
     unfolding written_to write_number file_written_to
     left_written buffer = rw e
+
+-- the code's result of writing the network
+pub as_reply : (r : Result ℕ Refusal) → as_written r ≡ reply (file_written r)
+as_reply (Ok size) = refl
+as_reply (Err e) = refl
+
+-- ---- what the code of each call needs
+pub ruleset limits = (nodes_le)
+
+pub ruleset opening = (refusal_some, open_refused, open_accepted)
+
+pub ruleset writing = (write_unsound, left_unsound, write_reply, left_written, as_reply, sound_network)

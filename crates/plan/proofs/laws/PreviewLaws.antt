@@ -1,15 +1,12 @@
 -- A preview by its rows: refused by the change's, then by the pair's; else the changed tree's answer with the count.
-use Rattle.std.specs.Prelude.{◌≡◌, ◌≢◌, []}
-use Rattle.std.proofs.Math.Path.{refl, sym}
-use Rattle.std.proofs.Common.{◌∙◌, arith}
-use Prim.Native.Nat.{ℕ, zero, suc}
+use Rattle.std.proofs.Common.{◌≡◌, ◌≢◌, [], refl, sym, ◌∙◌, arith, ℕ, zero, suc}
 use Rattle.base.specs.Checks.{accepted}
 use Rattle.base.proofs.laws.ChecksLaws.{positive, refused_by, chain_on}
 use Rattle.cut_tree.specs.Rebuild.{rebuilt}
 use Rattle.cut_tree.specs.Path.{Climbs, pair_rows, query_number, answer, query_of}
 use Rattle.cut_tree.specs.code.RebuildParts.{Changes}
-use Rattle.cut_tree.specs.declared.PairAnswer.{PairAnswer}
-use Rattle.cut_tree.specs.declared.PairAnswer.TheVariants.{Refused}
+use Rattle.cut_tree.specs.Path.{PairAnswer}
+use Rattle.cut_tree.specs.Path.{Refused}
 use Rattle.cut_tree.specs.declared.Built.{Built}
 use Rattle.plan.specs.Calls.{change_rows, change_number, altered, unaltered, changed, change_of, pair_of}
 use Rattle.plan.specs.Calls.{no_preview, preview_by, preview_of, preview_number}
@@ -18,7 +15,8 @@ use Rattle.plan.proofs.laws.AnswersLaws.{pair_query}
 use Rattle.plan.proofs.laws.ChangesLaws.{change_assumes}
 use Rattle.plan.proofs.laws.AlteredLaws.{changed_sound}
 use Rattle.plan.specs.declared.Plan.{Plan}
-use Rattle.plan.specs.declared.PreviewReply.{PreviewReply}
+use Rattle.plan.specs.Calls.{PreviewReply}
+use Rattle.network.proofs.laws.RefusalLaws.{refusal_some}
 
 module _ (p : Plan) (k c s t : ℕ) where
   abbrev n : ℕ
@@ -84,7 +82,12 @@ module _ (p : Plan) (k c s t : ℕ) where
         unfolding altered
         preview_climbs = rw g (sound_climbs (changed p k c).plan (changed_sound p k c (no_row (sym e ∙ z)).0))
 
-        pub preview_found : (a : PairAnswer) → a ≡ query_of x.tree n s t
-            → record { answer = a; count = x.count } ≡ preview_of p k c s t
+        -- by the pair's answer, whatever it is
+        pub preview_shows : (a : PairAnswer) → a ≡ query_of x.tree n s t → preview_by a x.count ≡ preview_of p k c s t
         unfolding query_of answer
-        preview_found a f = rw (f, g, preview_is, sym e ∙ z, (no_row (sym e ∙ z)).1)
+        preview_shows a f = rw (f, g, preview_is, sym e ∙ z, (no_row (sym e ∙ z)).1)
+
+-- ---- what the code of the checks and of the call needs
+pub ruleset checking = (refusal_some, by_change, by_pair)
+
+pub ruleset previewing = (refusal_some, preview_refused, preview_assumes, preview_climbs)

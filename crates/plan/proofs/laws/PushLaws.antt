@@ -1,8 +1,6 @@
 -- A stack with one more entry within the limits.
-use Rattle.std.specs.Prelude.{◌≡◌, true, ℕ, ◌+◌, ◌-◌, ◌≤◌, ◌<◌}
-use native.Mathlib.Omega.{arith}
+use Rattle.std.proofs.Common.{◌≡◌, true, ℕ, ◌+◌, ◌-◌, ◌≤◌, ◌<◌, arith, lt-ltb, le-leb, ltb-true, leb-true}
 use Rattle.std.proofs.Math.Decide.{dec_lt}
-use borrow.Author.Tests.{lt-ltb, le-leb, ltb-true, leb-true}
 use Rattle.base.specs.Basics.{at}
 use Rattle.base.proofs.laws.TestLaws.{all_at, all_in, none, ◌&◌, shown, head, rest, test}
 use Rattle.base.proofs.laws.BlankLaws.{blank_above, blank_behind}

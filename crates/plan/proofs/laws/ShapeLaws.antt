@@ -1,8 +1,6 @@
 -- Tree and steps of the rule's shape pass the tests of a sound plan, and what passes them has it.
-use Rattle.std.specs.Prelude.{◌≡◌, true, not, ℕ, zero, suc, ◌<◌}
-use Rattle.std.proofs.Common.{ap, arith}
-use Rattle.std.proofs.Math.Dec.{ltb, leb}
-use borrow.Author.Tests.{lt-ltb, le-leb, eq-eqb, ltb-true, leb-true, not-true}
+use Rattle.std.proofs.Common.{◌≡◌, true, not, ℕ, zero, suc, ◌<◌, ap, arith, ltb, leb, lt-ltb, le-leb, eq-eqb, ltb-true, leb-true}
+use Rattle.std.proofs.lemmas.Bool.{not-true}
 use Rattle.base.specs.Basics.{at}
 use Rattle.base.proofs.laws.TestLaws.{all_at, all_in, none, ◌&◌, shown, head, rest, test}
 use Rattle.base.proofs.laws.BlankLaws.{blank_in}

@@ -1,9 +1,6 @@
 -- What soundness says of the parts of a plan, as the layers below ask it.
-use Rattle.std.specs.Prelude.{◌≡◌, Bool, true, not, ℕ, ◌≤◌, ◌<◌}
-use Rattle.std.proofs.Common.{sym, ap, ◌∙◌, arith}
+use Rattle.std.proofs.Common.{◌≡◌, Bool, true, not, ℕ, ◌≤◌, ◌<◌, sym, ap, ◌∙◌, arith, ltb-true, leb-true, ltb, leb}
 use Rattle.std.proofs.Math.Decide.{dec_lt}
-use borrow.Author.Tests.{ltb-true, leb-true}
-use Rattle.std.proofs.Math.Dec.{ltb, leb}
 use Rattle.base.specs.Basics.{at}
 use Rattle.base.proofs.laws.TestLaws.{all_at, shown, head, rest}
 use Rattle.network.specs.Limits.{max_capacity, max_value}

@@ -1,13 +1,16 @@
 -- Laws of the tests of soundness: the word of all nodes as a bound of sides, the lightest edge's test beside the tree's, the steps from
 -- node 1 on.
-use Rattle.std.specs.Prelude.{◌≡◌, refl, Bool, true, false, ◌&&◌, List, [], ◌∷◌, ℕ, zero, suc, ◌+◌, ◌^◌, ◌≤◌, ◌<◌, ltb}
-use Rattle.std.proofs.Common.{◌∙◌, arith}
+use Rattle.std.proofs.Common.{◌≡◌, refl, Bool, true, false, ◌&&◌, List, [], ◌∷◌, ℕ, zero, suc, ◌+◌, ◌^◌, ◌≤◌, ◌<◌, ltb, sym, ap, ◌∙◌, leb}
+use Rattle.std.proofs.Common.{take, length, arith, add-one, lt-ltb, le-ltb, ltb-true, le-leb, pow_pos}
 use Rattle.std.proofs.Math.Bool.{and_comm}
-use Rattle.std.proofs.Math.Pow.{pow_pos}
-use borrow.Author.Tests.{lt-ltb, le-ltb, ltb-true}
+use Rattle.std.proofs.Math.Decide.{dec_le}
+use Rattle.std.proofs.lemmas.Bool.{lt-leb}
+use Rattle.std.specs.List.{list_all, range_with_len}
+use Rattle.std.proofs.lemmas.List.Folds.{list_all_more}
 use Rattle.base.specs.Basics.{at, all, every}
-use Rattle.base.proofs.laws.TestLaws.{all_at, all_none, all_more, all_fails}
+use Rattle.base.proofs.laws.TestLaws.{all_at, all_fails}
 use Rattle.network.specs.Limits.{max_nodes}
+use Rattle.network.proofs.laws.LinksLaws.{all_in_range}
 use Rattle.node_set.specs.Set.{all_below}
 use Rattle.cut_tree.specs.code.QueryParts.{Inside}
 use Rattle.cut_tree.specs.LightestEdge.{lightest_edge, equal_edges}
@@ -27,6 +30,13 @@ module _ (n side r : ℕ) (e : r ≡ all_below n) where
   unfolding all_below
   side_outside l = le-ltb side (2 ^ n) (omega (arith, pow_pos n))
 
+pub side_test : (n side : ℕ) → ltb side (2 ^ n) ≡ leb side (all_below n)
+side_test n side = go (dec_le side (all_below n))
+  where
+    go : Dec (side ≤ all_below n) → ltb side (2 ^ n) ≡ leb side (all_below n)
+    go (yes l) = side_within n side _ refl l ∙ sym (le-leb side (all_below n) l)
+    go (no d) = let l : all_below n < side = omega arith in side_outside n side _ refl l ∙ sym (lt-leb side (all_below n) l)
+
 -- a climb along parents that are nodes stays among the nodes
 pub parents_inside : (n : ℕ) (parent : List ℕ) → n ≤ max_nodes → parents_within n parent ≡ true → (i : ℕ) → i < n → Inside parent i
 parents_inside n parent small e i l = record {
@@ -35,6 +45,14 @@ parents_inside n parent small e i l = record {
   here = l;
   stays = λ j q. ltb-true (at parent j) n (all_at n (λ i. ltb (at parent i) n) e j q);
 }
+
+-- the test of each of the first n numbers
+pub all_take : (p : ℕ → Bool) (xs : List ℕ) (n : ℕ) → n ≤ length xs → list_all p (take n xs) ≡ all n (λ i. p (at xs i))
+unfolding all
+all_take p xs zero l = refl
+all_take p xs (suc n) l =
+    let more : list_all p (take (n + 1) xs) ≡ (list_all p (take n xs) && p (at xs n)) = list_all_more p xs n 0 (omega arith) in
+    (rw add-one at more) ∙ ap (λ b. b && p (at xs n)) (all_take p xs n (omega arith))
 
 -- the lightest edge's test is answered with the fourth of the tree's
 moved : (a b c d e f g x : Bool) → every (a ∷ b ∷ c ∷ (d && x) ∷ e ∷ f ∷ g ∷ []) ≡ (every (a ∷ b ∷ c ∷ d ∷ e ∷ f ∷ g ∷ []) && x)
@@ -50,24 +68,30 @@ pub tree_edge : (n : ℕ) (tree : Tree) (lightest : Edge)
 unfolding tree_with_edge tree_fits weights_fit
 tree_edge n tree lightest = moved _ _ _ _ _ _ _ _
 
--- the loop over the steps: node 0's, and then each other's
+-- a test of the numbers from 1 on, as an iterator makes it, after that of 0
+module _ (t f : ℕ → Bool) (h : (i : ℕ) → 0 < i → t i ≡ f i) where
+  others : (a m : ℕ) → 0 < a → list_all t (range_with_len a m) ≡ list_all f (range_with_len a m)
+  others a zero l = refl
+  others a (suc m) l = rw (h a l) (ap (λ b. f a && b) (others (a + 1) m (omega arith)))
+
+  pub all_from_one : (n m : ℕ) → suc m ≡ n → f 0 ≡ true → list_all t (range_with_len 1 m) ≡ all n f
+  all_from_one n m e first =
+      let from_zero : (f 0 && list_all f (range_with_len 1 m)) ≡ all (suc m) f = all_in_range f (suc m) in
+      others 1 m (omega arith) ∙ (rw first at from_zero) ∙ ap (λ k. all k f) e
+
+-- the steps of the nodes from 1 on, after node 0's
 module _ (n : ℕ) (steps : Steps) where
-  other_step : (s : ℕ) → 0 < s → step_fits n steps s ≡ step_within n s (at steps.pivot s) (at steps.side s) (at steps.value s)
+  abbrev pub step_test : ℕ → Bool
+  step_test s = step_within n s (at steps.pivot s) (at steps.side s) (at steps.value s)
+
+  other_step : (s : ℕ) → 0 < s → step_test s ≡ step_fits n steps s
   other_step zero l = absurd (omega arith)
   other_step (suc s) l = refl
 
-  pub root_step : root_step_within (at steps.pivot 0) (at steps.side 0) (at steps.value 0) ≡ true → all 1 (step_fits n steps) ≡ true
-  root_step e = all_more 0 (step_fits n steps) (all_none (step_fits n steps)) e
+  pub steps_from_one : (m : ℕ) → suc m ≡ n → root_step_within (at steps.pivot 0) (at steps.side 0) (at steps.value 0) ≡ true
+      → list_all step_test (range_with_len 1 m) ≡ all n (step_fits n steps)
+  steps_from_one m e = all_from_one step_test (step_fits n steps) other_step n m e
 
   pub root_step_fails : root_step_within (at steps.pivot 0) (at steps.side 0) (at steps.value 0) ≡ false → 0 < n
       → all n (step_fits n steps) ≡ false
   root_step_fails e l = all_fails n (step_fits n steps) 0 l e
-
-  module _ (s : ℕ) (p : 0 < s) where
-    pub step_more : step_within n s (at steps.pivot s) (at steps.side s) (at steps.value s) ≡ true → all s (step_fits n steps) ≡ true
-        → all (s + 1) (step_fits n steps) ≡ true
-    step_more e h = all_more s (step_fits n steps) h (other_step s p ∙ e)
-
-    pub step_fails : step_within n s (at steps.pivot s) (at steps.side s) (at steps.value s) ≡ false → s < n
-        → all n (step_fits n steps) ≡ false
-    step_fails e l = all_fails n (step_fits n steps) s l (other_step s p ∙ e)

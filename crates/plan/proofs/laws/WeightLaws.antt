@@ -1,15 +1,13 @@
 -- The tests of a tree's weights and of its lightest edge, answered together: that the edge is one of the tree's, and each node's weight
 -- beside it.
-use Prim.Native.Nat.{ℕ, zero, suc, ◌+◌, ◌≤◌, ◌<◌}
-use Rattle.std.proofs.Math.Path.{◌≡◌, sym, ap}
-use Rattle.std.proofs.Common.{subst, ◌∙◌, true≢false}
-use Rattle.std.proofs.Math.Bool.{true, not, or-true}
-use Rattle.std.specs.Prelude.{false, ◌||◌, List, [], ◌∷◌, ltb, eqb}
-use native.Mathlib.Omega.{arith}
-use Rattle.std.proofs.Math.Decide.{ℕ_discrete, dec_lt}
-use Rattle.std.proofs.Math.Dec.{leb}
-use borrow.Author.Tests.{lt-ltb, le-ltb, le-leb, leb-true, ltb-true, eq-eqb, ne_eqb, eqb-true, eqb-false, not-true}
-use Rattle.base.specs.Basics.{at}
+use Rattle.std.proofs.Common.{ℕ, zero, suc, ◌≤◌, ◌<◌, ◌≡◌, refl, sym, ap, subst, ◌∙◌, Bool, true, false, true≢false, not, ◌||◌}
+use Rattle.std.proofs.Common.{List, [], ◌∷◌}
+use Rattle.std.proofs.Common.{ltb, eqb, arith, leb, lt-ltb, le-ltb, le-leb, leb-true, ltb-true, eq-eqb, ne_eqb, eqb-true}
+use Rattle.std.proofs.Math.Bool.{or-true}
+use Rattle.std.proofs.Math.Decide.{dec_lt}
+use Rattle.std.proofs.lemmas.Bool.{eqb-false, not-true}
+use Rattle.std.specs.List.{list_all, range_with_len}
+use Rattle.base.specs.Basics.{at, all}
 use Rattle.base.proofs.laws.Bools.{and_l, and_r, both, never_true}
 use Rattle.base.proofs.laws.TestLaws.{all_at, all_in, Every, shown, head, rest, none, ◌&◌, test}
 use Rattle.network.specs.Limits.{max_nodes, max_value}
@@ -18,19 +16,12 @@ use Rattle.cut_tree.specs.LightestEdge.{edges_of, no_edge, lightest_among}
 use Rattle.cut_tree.proofs.laws.EdgeLaws.{edges_equal, equal_edges_lem, edge_is, is_edge_lem, edge_none, edge_some}
 use Rattle.cut_tree.proofs.laws.EdgeLaws.{edge_lowest, edge_unique}
 use Rattle.cut_tree.specs.declared.Edge.{Edge}
+use Rattle.plan.proofs.laws.SoundLaws.{all_from_one}
 use Rattle.plan.specs.code.SoundParts.{weights_within, is_edge, weight_within, weights_fit}
 
 -- the weights of the nodes from 1 to before k pass
 abbrev pub Each : List ℕ → Edge → ℕ → Type 0
 Each weight e k = (i : ℕ) → 0 < i → i < k → weight_within e i (at weight i) ≡ true
-
--- one more
-pub one_more : (weight : List ℕ) (e : Edge) (k : ℕ) → Each weight e k → weight_within e k (at weight k) ≡ true → Each weight e (k + 1)
-one_more weight e k h t i p l = go (ℕ_discrete i k)
-  where
-    go : Dec (i ≡ k) → weight_within e i (at weight i) ≡ true
-    go (yes q) = rw q t
-    go (no q) = h i p (omega arith)
 
 module _ (n : ℕ) (few : n ≤ max_nodes) (weight : List ℕ) where
   abbrev lightest : Edge
@@ -92,9 +83,6 @@ module _ (n : ℕ) (few : n ≤ max_nodes) (weight : List ℕ) where
     pub not_own : is_edge n weight e ≡ false → weights_fit n weight e ≡ false
     not_own f = never_true _ (λ h. true≢false (sym (own h) ∙ f))
 
-    pub not_each : (i : ℕ) → 0 < i → i < n → weight_within e i (at weight i) ≡ false → weights_fit n weight e ≡ false
-    not_each i p l f = never_true _ (λ h. true≢false (sym (each h i p l) ∙ f))
-
     -- ---- and only there
     module _ (z : at weight 0 ≡ 0) (o : is_edge n weight e ≡ true) (h : Each weight e n) where
       all_within : (i : ℕ) → i < n → leb (at weight i) max_value ≡ true
@@ -148,3 +136,34 @@ module _ (n : ℕ) (few : n ≤ max_nodes) (weight : List ℕ) where
       pub fits : weights_fit n weight e ≡ true
       unfolding weights_fit
       fits = both (all_in n (λ i. leb (at weight i) max_value) all_within) (equal_edges_lem e lightest is_lightest)
+
+    -- ---- so the tests of the nodes, as an iterator makes them, answer both
+    abbrev pub weight_test : ℕ → Bool
+    weight_test i = weight_within e i (at weight i)
+
+    abbrev after_zero : ℕ → Bool
+    after_zero zero = true
+    after_zero (suc i) = weight_test (suc i)
+
+    other_weight : (i : ℕ) → 0 < i → weight_test i ≡ after_zero i
+    other_weight zero l = absurd (omega arith)
+    other_weight (suc i) l = refl
+
+    each_of : all n after_zero ≡ true → Each weight e n
+    each_of h zero p l = absurd (omega arith)
+    each_of h (suc i) p l = all_at n after_zero h (suc i) l
+
+    all_of : Each weight e n → all n after_zero ≡ true
+    all_of h = all_in n after_zero go
+      where
+        go : (i : ℕ) → i < n → after_zero i ≡ true
+        go zero l = refl
+        go (suc i) l = h (suc i) (omega arith) l
+
+    pub weights_from_one : (m : ℕ) → suc m ≡ n → at weight 0 ≡ 0 → is_edge n weight e ≡ true
+        → list_all weight_test (range_with_len 1 m) ≡ weights_fit n weight e
+    weights_from_one m s z o = all_from_one weight_test after_zero other_weight n m s refl ∙ go (all n after_zero) refl
+      where
+        go : (x : Bool) → all n after_zero ≡ x → all n after_zero ≡ weights_fit n weight e
+        go true h = h ∙ sym (fits z o (each_of h))
+        go false h = h ∙ sym (never_true _ (λ w. true≢false (sym (all_of (each w)) ∙ h)))

@@ -1,7 +1,6 @@
 -- "Both ends show the same bottleneck": what the calls for (s, t) and for (t, s) reply, of every plan. A plan that is
 -- not sound is refused at both ends alike.
-use Rattle.std.specs.Prelude.{ℕ, ◌≡◌, refl, Bool, true, false, [], ◌∷◌, ltb}
-use Rattle.std.proofs.Common.{arith}
+use Rattle.std.proofs.Common.{ℕ, ◌≡◌, refl, Bool, true, false, [], ◌∷◌, ltb, arith}
 use Rattle.base.specs.Checks.{row}
 use Rattle.network.specs.Refusals.{demand_too_large}
 use Rattle.cut_tree.specs.Path.{answer, number_of}

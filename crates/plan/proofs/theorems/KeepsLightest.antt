@@ -1,9 +1,6 @@
 -- "Opening, change and take-back keep it true, and a plan in which it isn't true counts as not sound." And of every
 -- sound plan with two nodes or more: what the plan holds is the lightest edge, and no pair has a smaller weight.
-use Prim.Native.Nat.{ℕ, zero, suc, ◌<◌}
-use Rattle.std.specs.Prelude.{◌≡◌, true, false, List}
-use Rattle.std.proofs.Math.Path.{refl, ap, subst}
-use Rattle.std.proofs.Common.{sym, ◌∙◌, arith}
+use Rattle.std.proofs.Common.{ℕ, zero, suc, ◌<◌, ◌≡◌, true, false, List, refl, ap, subst, sym, ◌∙◌, arith}
 use Rattle.std.proofs.Math.Decide.{ℕ_discrete}
 use Rattle.base.specs.Basics.{at}
 use Rattle.base.specs.Checks.{accepted}

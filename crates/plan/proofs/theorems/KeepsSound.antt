@@ -1,11 +1,9 @@
 -- A change leaves every sound plan sound, reached from an opening or not. So a pair call that follows an accepted
 -- change, as in a preview, is never refused with 19.
-use Rattle.std.specs.Prelude.{ℕ, zero, suc, ◌≡◌, true}
-use Rattle.std.proofs.Math.Path.{refl, ap}
-use Rattle.std.proofs.Common.{◌∙◌, arith}
+use Rattle.std.proofs.Common.{ℕ, zero, suc, ◌≡◌, true, refl, ap, ◌∙◌, arith}
 use Rattle.base.specs.Checks.{accepted}
 use Rattle.cut_tree.specs.Path.{query_number, answer, query_of, number_of}
-use Rattle.cut_tree.specs.declared.PairAnswer.TheVariants.{Refused}
+use Rattle.cut_tree.specs.Path.{Refused}
 use Rattle.base.proofs.laws.ChecksLaws.{number_kept}
 use Rattle.plan.specs.Plan.{sound}
 use Rattle.plan.specs.Calls.{change_number, unaltered, changed, change_of, pair_of}

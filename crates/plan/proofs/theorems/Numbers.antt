@@ -1,10 +1,6 @@
 -- What holds of the definitions of specs/Numbers.antt.
-use Prim.Native.Nat.{ℕ, zero, suc, ◌+◌, ◌-◌, ◌≤◌}
-use Rattle.std.specs.Prelude.{◌≡◌, ◌≢◌, ◌↔◌, List, ◌++◌, replicate, ℤ, pos}
-use Rattle.std.proofs.Math.Path.{refl, sym, ap}
-use Rattle.std.proofs.Common.{subst₂, ◌∙◌}
-use native.Mathlib.Omega.{arith}
-use Rattle.std.proofs.Math.ListN.{length, drop}
+use Rattle.std.proofs.Common.{ℕ, zero, suc, ◌+◌, ◌-◌, ◌≤◌, ◌≡◌, ◌≢◌, ◌↔◌, List, ◌++◌, replicate, ℤ, pos, refl, sym, ap, subst₂, ◌∙◌}
+use Rattle.std.proofs.Common.{arith, length, drop}
 use Rattle.std.proofs.Math.Seq.{sets-eq}
 use Rattle.base.specs.Checks.{accepted}
 use Rattle.base.specs.Conditions.{end, Numbered}
@@ -15,7 +11,7 @@ use Rattle.network_file.specs.Reading.{read_file}
 use Rattle.network_file.specs.Writing.{file_of}
 use Rattle.cut_tree.proofs.theorems.Rebuilds.{rebuilt_most}
 use Rattle.cut_tree.specs.Path.{answer, number_of}
-use Rattle.cut_tree.specs.declared.PairAnswer.TheVariants.{Refused}
+use Rattle.cut_tree.specs.Path.{Refused}
 use Rattle.text.specs.Text.{text_width}
 use Rattle.base.specs.Basics.{at}
 use Rattle.plan.specs.Plan.{push, pop, no_plan}
@@ -27,11 +23,11 @@ use Rattle.plan.specs.Calls.{flow_number, Flowed, headroom_number, no_headroom, 
 use Rattle.plan.specs.Calls.{write_number, not_written, write_of, written_to}
 use Rattle.plan.specs.declared.Stack.{Stack}
 use Rattle.plan.specs.declared.Plan.{Plan}
-use Rattle.plan.specs.declared.Opening.{Opening}
-use Rattle.plan.specs.declared.Changed.{Changed}
-use Rattle.plan.specs.declared.PreviewReply.{PreviewReply}
+use Rattle.plan.specs.Calls.{Opening}
+use Rattle.plan.specs.Calls.{Changed}
+use Rattle.plan.specs.Calls.{PreviewReply}
 use Rattle.plan.specs.declared.HeadroomReply.{HeadroomReply}
-use Rattle.plan.specs.declared.Written.{Written}
+use Rattle.plan.specs.Calls.{Written}
 use Rattle.plan.specs.Numbers.{change_table, undo_table, node_table, preview_table, flow_table, headroom_table, write_table}
 
 -- ---- change

@@ -1,8 +1,7 @@
 -- The text that is filled from the right is the text of a headroom (docs/SCOPE.md, 6).
 use Rattle.std.specs.Prelude.{◌≡◌, refl, Bool, true, false, List, [], ◌∷◌, ◌++◌, ℕ, zero, suc, ◌+◌, ◌-◌, ◌/◌, ◌%◌, ◌^◌}
-use Rattle.std.specs.Prelude.{◌≤◌, ◌<◌, length, replicate, set, ltb, ℤ, pos, negsuc, nat_abs}
-use Rattle.std.proofs.Common.{sym, ap, ap₂, ◌∙◌, append_assoc, arith, length-append, ltb-true, ltb-false, lt-ltb}
-use Rattle.std.proofs.lemmas.List.Edits.{sets}
+use Rattle.std.specs.Prelude.{◌≤◌, ◌<◌, length, replicate, ltb, ℤ, pos, negsuc, nat_abs}
+use Rattle.std.proofs.Common.{sym, ap, ◌∙◌, append_assoc, arith, length-append, ltb-true, ltb-false, lt-ltb}
 use Rattle.base.specs.Basics.{pick}
 use Rattle.text.specs.Text.{digits, decimal, right_aligned, text_width, text_of}
 use Rattle.text.specs.code.Columns.{is_negative, mark_of, leading, tenths_from}
@@ -155,7 +154,7 @@ sign_length : (b : Bool) → length (sign b) ≤ 1
 sign_length true = omega arith
 sign_length false = omega arith
 
-tenths_by : (m : ℕ) (negative : Bool) → m ≤ 2 ^ 31
+pub tenths_by : (m : ℕ) (negative : Bool) → m ≤ 2 ^ 31
     → tenths_from m negative ≡ right_aligned text_width (sign negative ++ (decimal (m / 10) ++ (46 ∷ (48 + m % 10) ∷ [])))
 unfolding tenths_from
 tenths_by m negative l =
@@ -188,24 +187,3 @@ pub tenths_text : (z : ℤ) → nat_abs z ≤ 2 ^ 31 → tenths_from (nat_abs z)
 unfolding text_of
 tenths_text (pos n) l = tenths_by n false l
 tenths_text (negsuc n) l = tenths_by (suc n) true l
-
--- ---- a number is written into a buffer
-sets_one : (l : List ℕ) (i : ℕ) (xs : List ℕ) (d : ℕ) → sets l i (xs ++ (d ∷ [])) ≡ set (sets l i xs) (i + length xs) d
-sets_one l i [] d = let e : i + 0 ≡ i = omega arith in rw e
-sets_one l i (x ∷ xs) d = let e : i + suc (length xs) ≡ suc i + length xs = omega arith in rw e (sets_one (set l i x) (suc i) xs d)
-
--- one digit; and one digit behind the others
-pub put_one : (l : List ℕ) (i n : ℕ) → n < 10 → (i + 1 ≡ i + length (decimal n)) × (set l i (48 + n) ≡ sets l i (decimal n))
-put_one l i n h = rw (decimal_one n h) (refl, refl)
-
-module _ (l : List ℕ) (i n : ℕ) (h : 10 ≤ n) (f : n < 2 ^ 64) where
-  pub decimal_shorter : length (decimal n) ≡ length (decimal (n / 10)) + 1
-  decimal_shorter = ap length (decimal_more n h f) ∙ length_one (decimal (n / 10)) (48 + n % 10)
-
-  pub put_more : (r : ℕ) (m : List ℕ) → r ≡ i + length (decimal (n / 10)) → m ≡ sets l i (decimal (n / 10))
-      → (r + 1 ≡ i + length (decimal n)) × (set m r (48 + n % 10) ≡ sets l i (decimal n))
-  put_more r m e g = (
-    omega (arith, decimal_shorter),
-    ap₂ (λ (a : List ℕ) (k : ℕ). set a k (48 + n % 10)) g e
-        ∙ sym (sets_one l i (decimal (n / 10)) (48 + n % 10)) ∙ ap (sets l i) (sym (decimal_more n h f)),
-  )

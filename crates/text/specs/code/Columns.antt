@@ -1,5 +1,5 @@
--- The text of tenths as the code fills it, from the right: lemmas stand in ColumnsLaws; that it is `text_of` in
--- TextLaws.
+-- The text of tenths, filled from the right: that it is `text_of` stands in TextLaws, that the code gives it in
+-- PlacedLaws.
 use Rattle.std.specs.Prelude.{ℕ, zero, suc, ◌+◌, ◌-◌, ◌/◌, ◌%◌, Bool, true, false, List, [], ◌∷◌, ◌++◌, ℤ, pos, negsuc}
 use Rattle.text.specs.Text.{text_width}
 

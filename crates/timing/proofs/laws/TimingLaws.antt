@@ -1,14 +1,8 @@
 -- What the function for timing gives, by the ways through the code.
-use Prim.Native.Nat.{ℕ, zero, suc, ◌+◌}
-use Rattle.std.specs.Prelude.{◌≡◌, ◌≢◌, true, List}
-use Rattle.std.proofs.Math.Path.{refl, sym, ap}
-use Rattle.std.proofs.Common.{◌∙◌, add-one}
-use Rattle.network.specs.Network.{network_fits}
+use Rattle.std.proofs.Common.{ℕ, zero, suc, ◌+◌, ◌≡◌, ◌≢◌, List, refl, sym, ap, ◌∙◌, add-one}
 use Rattle.base.specs.Checks.{accepted}
 use Rattle.network.specs.declared.Network.{Network}
-use Rattle.network_file.specs.Reading.{read_file}
-use Rattle.network_file.proofs.laws.FileLaws.{accepts}
-use Rattle.network_file.specs.declared.Reading.{Reading}
+use Rattle.network_file.specs.Reading.{read_file, Reading}
 use Rattle.timing.specs.Timing.{weight_of, weight_after, timed_in, timed_of}
 
 -- ---- rounds
@@ -31,12 +25,8 @@ module _ (file : List ℕ) {r : Reading} (e : r ≡ read_file file) where
       go zero n = absurd (n refl)
       go (suc k) n = refl
 
-  module _ (z : r.number ≡ 0) where
-    pub timed_within : network_fits r.network ≡ true
-    timed_within = rw e (accepts file (sym (ap (λ (x : Reading). x.number) e) ∙ z)).fits
-
-    pub timed_accepted : (rounds : ℕ) {w : ℕ} → w ≡ weight_after r.network rounds → w ≡ timed_of file rounds
-    unfolding timed_of
-    timed_accepted rounds g =
-        g ∙ sym (ap (λ (k : ℕ). accepted k (weight_after r.network rounds) (λ e. 0)) z) ∙
-        ap (λ (r : Reading). timed_in r rounds) e
+  pub timed_accepted : r.number ≡ 0 → (rounds : ℕ) {w : ℕ} → w ≡ weight_after r.network rounds → w ≡ timed_of file rounds
+  unfolding timed_of
+  timed_accepted z rounds g =
+      g ∙ sym (ap (λ (k : ℕ). accepted k (weight_after r.network rounds) (λ e. 0)) z) ∙
+      ap (λ (r : Reading). timed_in r rounds) e

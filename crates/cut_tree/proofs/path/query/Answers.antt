@@ -1,36 +1,30 @@
--- `cut_tree::path::query` meets its contract: the refusal of its rows, or the answer.
-use Rattle.std.proofs.Common.{◌≡◌, ◌≢◌, ℕ, ◌<◌, arith}
+-- `cut_tree::path::query` meets its contract: the refusal of its checks, or the answer.
+use Rattle.std.proofs.Common.{◌<◌, refl, arith}
 use Rattle.network.specs.Limits.{max_nodes}
-use Rattle.cut_tree.specs.Path.{lightest_on}
-use Rattle.cut_tree.proofs.laws.QueryLaws.{query_nodes, query_refused, answered}
+use Rattle.cut_tree.proofs.laws.QueryLaws.{query_nodes, query_err, answered}
 use Rattle.cut_tree.proofs.laws.PathLaws.{lightest_node}
 use Rattle.cut_tree.proofs.path.query.Goals as goal
-use Rattle.cut_tree.proofs.path.query.Goals.{Else-number-ne0}
+use Rattle.cut_tree.proofs.path.query.Goals.{After-side_of-side}
 
-pub returns-then-number-ne0 : goal.returns-then-number-ne0
-returns-then-number-ne0 c = query_refused _ _ _ _ _ c.query_number-number.ensures c.if-number-ne0.true
-
--- once no row held
-nodes : (c : Else-number-ne0) → let a = c.args in (a.s < a.n) × (a.t < a.n) × (a.s ≢ a.t)
-nodes c = query_nodes _ _ _ _ c.query_number-number.ensures c.if-number-ne0.false
+pub returns-in_err-check_pair : goal.returns-in_err-check_pair
+returns-in_err-check_pair c = query_err _ _ _ _ _ _ c.in_err-check_pair.ensures c.from_residual.ensures.1
 
 -- what is found is a node
-found : (c : Else-number-ne0) (v : ℕ) → v ≡ lightest_on c.args.tree c.args.s c.args.t → v < max_nodes
-found c v e =
+found : (c : After-side_of-side) → c.lightest_on-node.result < max_nodes
+found c =
     let a = c.args in
-    let (sl, tl, d) = nodes c in
+    let (sl, tl, d) = query_nodes a.n a.s a.t 0 c.in_ok-check_pair.ensures refl in
     let below = lightest_node a.n a.tree c.requires a.s a.t sl tl d in
     let few = c.requires.small in
-    omega (arith, e, below.1, few)
+    omega (arith, c.lightest_on-node.ensures, below.1, few)
 
-pub offset_bounds-weight-v : goal.offset_bounds-weight-v
-offset_bounds-weight-v c =
-    omega (arith, found (goal.at.offset_bounds-weight-v c).Else-number-ne0 _ c.lightest_on-v.ensures)
+pub offset_bounds-tree-node : goal.offset_bounds-tree-node
+offset_bounds-tree-node c = omega (arith, found c)
 
-pub bounds-weight-v : goal.bounds-weight-v
-bounds-weight-v c = found (goal.at.bounds-weight-v c).Else-number-ne0 _ c.lightest_on-v.ensures
+pub bounds-tree-node : goal.bounds-tree-node
+bounds-tree-node c = found c
 
 pub returns : goal.returns
 returns c =
-    answered c.args.tree _ _ _ _ c.query_number-number.ensures c.if-number-ne0.false
-    _ _ _ c.lightest_on-v.ensures c.side_of-side.ensures c.size-size.ensures
+    answered c.args.tree _ _ _ 0 c.in_ok-check_pair.ensures refl
+    _ _ _ c.lightest_on-node.ensures c.side_of-side.ensures c.size.ensures

@@ -1,15 +1,6 @@
 -- The nodes still to go, moved, give what all of them give; each turn takes the lowest out.
-use Rattle.std.proofs.Common.{refl, arith}
-use Rattle.node_set.proofs.theorems.Members.{removed_less}
 use Rattle.cut_tree.proofs.laws.StepLaws.{moving_next, moving_end}
 use Rattle.cut_tree.proofs.rule.move_nodes.Goals as goal
-
-pub loop-rest-init : goal.loop-rest-init
-loop-rest-init c = refl
-
-pub loop-rest-smaller : goal.loop-rest-smaller
-loop-rest-smaller c =
-    omega (arith, c.remove-rest.ensures, removed_less c.loop-rest.rest c.lowest-i.result c.lowest-i.ensures.here)
 
 pub loop-rest-preserved : goal.loop-rest-preserved
 loop-rest-preserved c =

@@ -1,25 +1,24 @@
 -- `gate_window::tally::after_reading` meets its contract: one law for each way through it.
 use Rattle.std.proofs.Common.{ap, ◌∙◌, to_z-of_z, w32, rules}
+use Rattle.std.proofs.lemmas.Result.{err_from_is_err_and}
 use Rattle.gate_window.specs.Reading.{read}
-use Rattle.gate_window.proofs.laws.ReadingLaws.{not_read_lem, full, is_read}
+use Rattle.gate_window.proofs.laws.ReadingLaws.{refused_is, full_is, read_is}
 use Rattle.gate_window.proofs.tally.after_reading.Goals as goal
 
-pub returns-then-left-ne0 : goal.returns-then-left-ne0
-returns-then-left-ne0 c =
+pub returns-in_err-left : goal.returns-in_err-left
+returns-in_err-left c =
     let a = c.args in
-    let h = c.headroom-left in
-    c.not_read.ensures ∙ not_read_lem a.p a.s a.t a.demand h.result h.ensures a.w c.if-left-ne0.true
+    let e = err_from_is_err_and c.from_residual.result c.from_residual.ensures.1 in
+    rw (e.1, e.2) (refused_is a.p a.s a.t a.demand a.w c.in_err-left.field-0.0 c.in_err-left.ensures)
 
 pub returns-then-w-ge-MAX_READINGS : goal.returns-then-w-ge-MAX_READINGS
 returns-then-w-ge-MAX_READINGS c =
-    let a = c.args in
-    let h = c.headroom-left in
-    c.not_read-then-w-ge-MAX_READINGS.ensures
-    ∙ full a.p a.s a.t a.demand h.result h.ensures a.w c.if-left-ne0.false c.if-w-ge-MAX_READINGS.true
+    let a = c.args in full_is a.p a.s a.t a.demand a.w c.in_ok-left.left c.in_ok-left.ensures c.if-w-ge-MAX_READINGS.true
 
 pub returns : goal.returns
 returns c =
     let a = c.args in
-    let h = c.headroom-left in
-    c.read.ensures ∙ ap (read a.w) (to_z-of_z {w = w32} {z = h.result.value} (search rules))
-    ∙ is_read a.p a.s a.t a.demand h.result h.ensures a.w c.if-left-ne0.false c.if-w-ge-MAX_READINGS.false
+    let left = c.in_ok-left.left in
+    rw (c.noted-window.ensures, c.window_text-text.ensures)
+    (ap (read a.w) (to_z-of_z {w = w32} {z = left.value} (search rules))
+    ∙ read_is a.p a.s a.t a.demand a.w left c.in_ok-left.ensures c.if-w-ge-MAX_READINGS.false)

@@ -1,5 +1,5 @@
 -- `push` meets its contract: at place i the amount is sent from there to the node reached last. Places fall.
-use Prim.Native.Nat.{ℕ}
+use Rattle.std.proofs.Common.{ℕ}
 use Rattle.network.specs.declared.Network.{Network}
 use Rattle.max_flow.specs.code.Push.{Sending, Half}
 use Rattle.max_flow.proofs.augment.push.Given as goal

@@ -1,5 +1,5 @@
 -- `write_flow` writes what each link carries.
-use mathlib.Core.Path.{◌≡◌}
+use Rattle.std.proofs.Common.{◌≡◌}
 use Rattle.max_flow.specs.code.LinkFlows.{link_flows_up_to}
 use Rattle.max_flow.proofs.flows.write_flow.Given as goal
 

@@ -1,58 +1,30 @@
 -- `write` meets its contract: the length is known before the first byte is written.
-use Rattle.std.proofs.Common.{ℕ, ap, ◌∙◌, arith}
-use Rattle.network.proofs.laws.NetworkLaws.{nodes_le, links_le}
-use Rattle.network_file.proofs.laws.WritingSteps.{file_long, refuses_short, fills_front}
+use Rattle.std.proofs.Common.{refl, arith, rules}
+use Rattle.network_file.proofs.laws.WritingSteps.{refuses_short, room_first, room_behind, file_room, fills_front}
 use Rattle.network_file.proofs.writer.write.Goals as goal
 
 pub returns-then-out-length : goal.returns-then-out-length
 returns-then-out-length c =
     let e = c.file_length-length.ensures in
-    let h = refuses_short c.args.net c.args.out.now (omega (arith, c.if-out-length.true, e)) in
+    let h = refuses_short c.args.net.network c.args.out.now (omega (arith, c.if-out-length.true, e)) in
     record { value = h.0; out_after = h.1 }
 
-pub overflow_cast-net : goal.overflow_cast-net
-overflow_cast-net c = record { fits = omega (arith, nodes_le c.args.net c.requires) }
+pub put_number-requires : goal.put_number-requires
+put_number-requires c =
+    room_first _ _ (file_room c.args.net.network _ _ refl c.file_length-length.ensures c.if-out-length.false)
 
-pub write_number-second-requires : goal.write_number-second-requires
-write_number-second-requires c =
-    omega (arith, c.if-out-length.false, c.file_length-length.ensures, file_long c.args.net)
+pub put_number-requires-2 : goal.put_number-requires-2
+put_number-requires-2 c =
+    let room = file_room c.args.net.network _ _ refl c.file_length-length.ensures c.if-out-length.false in
+    room_first _ _ (room_behind c.put_number.ensures room)
 
-pub overflow_cast-net-2 : goal.overflow_cast-net-2
-overflow_cast-net-2 c = record { fits = omega (arith, links_le c.args.net c.requires) }
-
-pub write_number-third-requires : goal.write_number-third-requires
-write_number-third-requires c =
-    omega (
-      arith,
-      c.write_number-second.ensures.value,
-      c.write_number-second.auto.out,
-      c.if-out-length.false,
-      c.file_length-length.ensures,
-      file_long c.args.net,
-    )
-
-pub write_links-requires : goal.write_links-requires
-write_links-requires c =
-    let first = c.write_number-second in
-    let second = c.write_number-third in (
-      c.requires,
-      omega (
-        arith,
-        second.ensures.value,
-        second.auto.out,
-        first.ensures.value,
-        first.auto.out,
-        c.if-out-length.false,
-        c.file_length-length.ensures,
-        file_long c.args.net,
-      ),
-    )
+pub put_links-requires : goal.put_links-requires
+put_links-requires c =
+    let room = file_room c.args.net.network _ _ refl c.file_length-length.ensures c.if-out-length.false in
+    room_behind c.put_number-2.ensures (room_behind c.put_number.ensures room)
 
 pub returns : goal.returns
 returns c =
-    let len = c.file_length-length.ensures in
-    let e1 = c.write_number-second.ensures in
-    let e2 = c.write_number-third.ensures in
-    let h = fills_front c.args.net _ _ c.args.out.now _ _ _ (omega (arith, c.if-out-length.false, len))
-    e1.value e2.value e1.out_after e2.out_after c.write_links.ensures in
-    record { value = ap (λ (n : ℕ). record { number = 0; length = n }) len ∙ h.0; out_after = h.1 }
+    let h = fills_front c.args.net.network c.args.out.now _ _ _ _ _ c.file_length-length.ensures c.if-out-length.false
+    refl refl c.put_number.ensures c.put_number-2.ensures c.put_links.ensures in
+    record { value = h.0; out_after = search (rules, h.1, h.2) }

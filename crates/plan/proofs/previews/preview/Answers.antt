@@ -1,18 +1,15 @@
--- `plan::previews::preview` meets its contract. Once no row held, the changed tree is one that a pair can be asked of.
-use Rattle.plan.proofs.laws.PreviewLaws.{preview_refused, preview_assumes, preview_climbs, preview_found}
+-- `plan::previews::preview` meets its contract: once no row held, it shows the changed tree's answer, whatever it is.
+use Rattle.std.proofs.Common.{refl}
+use Rattle.std.proofs.lemmas.Result.{err_from_is_err_and}
+use Rattle.plan.proofs.laws.PreviewLaws.{preview_shows}
 use Rattle.plan.proofs.previews.preview.Goals as goal
 
-pub returns-then-number-ne0 : goal.returns-then-number-ne0
-returns-then-number-ne0 c = preview_refused _ _ _ _ _ _ c.preview_number-number.ensures c.if-number-ne0.true
-
-pub rebuild-built-requires : goal.rebuild-built-requires
-rebuild-built-requires c = preview_assumes _ _ _ _ _ _ c.preview_number-number.ensures c.if-number-ne0.false
-
-pub query-answer-requires : goal.query-answer-requires
-query-answer-requires c =
-    preview_climbs _ _ _ _ _ _ c.preview_number-number.ensures c.if-number-ne0.false _ c.rebuild-built.ensures
+pub returns-in_err-pair : goal.returns-in_err-pair
+returns-in_err-pair c =
+    let p = err_from_is_err_and c.from_residual-in_err-pair.result c.from_residual-in_err-pair.ensures.1 in
+    rw (p.1, p.2)
+    (preview_shows _ _ _ _ _ _ c.in_ok-check_preview.ensures refl _ c.rebuild-built.ensures _ c.in_err-pair.ensures)
 
 pub returns : goal.returns
 returns c =
-    preview_found _ _ _ _ _ _ c.preview_number-number.ensures c.if-number-ne0.false _
-    c.rebuild-built.ensures _ c.query-answer.ensures
+    preview_shows _ _ _ _ _ _ c.in_ok-check_preview.ensures refl _ c.rebuild-built.ensures _ c.in_ok-pair.ensures

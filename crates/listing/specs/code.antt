@@ -1,0 +1,2 @@
+-- what the code's own parts promise
+pub mod Adds
