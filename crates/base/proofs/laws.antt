@@ -6,6 +6,7 @@ pub mod IntParts
 pub mod WordLaws
 pub mod BlankLaws
 pub mod TestLaws
+pub mod RangeLaws
 pub mod ChecksLaws
 pub mod ListLaws
 pub mod PutsLaws

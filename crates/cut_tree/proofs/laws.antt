@@ -15,6 +15,7 @@ pub mod RuleShape
 pub mod MemberLaws
 pub mod LightestLaws
 pub mod EdgeLaws
+pub mod FirstLightestLaws
 pub mod PathLaws
 pub mod PairLaws
 pub mod TreeValues

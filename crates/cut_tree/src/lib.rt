@@ -5,6 +5,7 @@
 mod keep; // which steps are kept, and their cuts
 mod lightest; // the lightest edge of a tree
 mod path; // the pair query with its refusals, and whether a node reaches node 0
+mod rooted; // a tree whose nodes all climb to node 0
 mod rule; // one step of the rule
 mod trees; // build and rebuild
 

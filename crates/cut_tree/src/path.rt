@@ -9,11 +9,11 @@ ghost use Rattle.cut_tree.specs.Path.{query_number, query_of};
 ghost use Rattle.cut_tree.specs.Results.{as_answer};
 ghost use Rattle.base.specs.Basics.{among};
 ghost use Rattle.cut_tree.specs.code.QueryParts.{Inside, Known, climb_to, added_all, lighter};
-ghost use Rattle.cut_tree.specs.code.QueryParts.{IsNode, Pair, lightest_from};
+ghost use Rattle.cut_tree.specs.code.QueryParts.{IsNode, lightest_from};
 
+use crate::rooted::RootedTree;
 use crate::{PairFound, Tree};
 use network::{MAX_NODES, Refusal};
-use std::cmp::Ordering;
 
 // The most parents on the way to node 0: all other nodes.
 pub const MAX_CLIMB: usize = MAX_NODES - 1;
@@ -35,19 +35,6 @@ pub fn reaches_root(parent: &[u8; MAX_NODES], left: usize, i: usize) -> bool
 }
 
 impl Tree {
-    // the set x with the nodes from i up to node 0, without it
-    #[tactic(auto, using(crate::proofs::laws::QueryLaws::gathering))]
-    fn ancestors(&self, left: usize, i: usize, x: u64) -> u64
-        requires { Inside self.now.parent i }
-        ensures { result ≡ added_all x (climb self.now.parent left i) }
-    {
-        if i == 0 || left == 0 {
-            return x;
-        }
-        let up = self.parent[i] as usize;
-        self.ancestors(left - 1, up, node_set::add(x, i))
-    }
-
     // the lighter of the edges of best and i, the lower number where they are equal; i where there is no best yet
     #[tactic(auto, using(crate::proofs::laws::QueryLaws::lighter_ways))]
     fn lighter(&self, best: Option<usize>, i: usize) -> usize
@@ -57,31 +44,43 @@ impl Tree {
         let Some(best) = best else {
             return i;
         };
-        match self.weight[i].cmp(&self.weight[best]) {
-            Ordering::Less => i,
-            Ordering::Equal => i.min(best),
-            Ordering::Greater => best,
+        let (_, lesser) = (self.weight[i], i).min((self.weight[best], best));
+        lesser
+    }
+}
+
+impl<'a> RootedTree<'a> {
+    // the set x with the nodes from i up to node 0, without it
+    #[tactic(auto, using(crate::proofs::laws::QueryLaws::gathering))]
+    fn ancestors(&self, left: usize, i: usize, x: u64) -> u64
+        requires { i < self.now.nodes }
+        ensures { result ≡ added_all x (climb self.now.tree.now.parent left i) }
+    {
+        if i == 0 || left == 0 {
+            return x;
         }
+        let up = self.tree.parent[i] as usize;
+        self.ancestors(left - 1, up, node_set::add(x, i))
     }
 
     // The lightest of best's edge and those on the way up from i, as far as the set `stop`; the lowest number among
     // equals.
     #[tactic(auto, using(crate::proofs::laws::QueryLaws::going_up))]
     fn lightest_up(&self, left: usize, i: usize, stop: u64, best: Option<usize>) -> Option<usize>
-        requires { Inside self.now.parent i × IsNode best }
-        ensures { result ≡ lightest_from self.now.weight best (climb_to stop self.now.parent left i) }
+        requires { (i < self.now.nodes) × IsNode best }
+        ensures { result ≡ lightest_from self.now.tree.now.weight best (climb_to stop self.now.tree.now.parent left i) }
     {
         if i == 0 || left == 0 || node_set::contains(stop, i) {
             return best;
         }
-        let up = self.parent[i] as usize;
-        self.lightest_up(left - 1, up, stop, Some(self.lighter(best, i)))
+        let up = self.tree.parent[i] as usize;
+        self.lightest_up(left - 1, up, stop, Some(self.tree.lighter(best, i)))
     }
 
     // the node of the lightest edge on the path between s and t, the lowest among equals: up from s, then up from t
     fn lightest_on(&self, s: usize, t: usize) -> usize
-        requires { Pair self.now.parent s t }
-        ensures { result ≡ lightest_on self.now s t }
+        requires { (s < self.now.nodes) × (t < self.now.nodes) × (s ≢ t) }
+        ensures { result ≡ lightest_on self.now.tree.now s t }
     {
         let above_s = self.ancestors(MAX_CLIMB, s, node_set::empty());
         let above_t = self.ancestors(MAX_CLIMB, t, node_set::empty());
@@ -92,8 +91,8 @@ impl Tree {
     // whether the climb from j goes through v; of the nodes below i that is known: those that do are in x
     #[tactic(auto, using(crate::proofs::laws::SideLaws::through))]
     fn climbs_through(&self, v: usize, x: u64, i: usize, left: usize, j: usize) -> bool
-        requires { Known self.now.parent v x i left j }
-        ensures { result ≡ among v (climb self.now.parent left j) }
+        requires { (j < self.now.nodes) × Known self.now.tree.now.parent v x i left j }
+        ensures { result ≡ among v (climb self.now.tree.now.parent left j) }
     {
         if j == 0 {
             return false;
@@ -107,18 +106,17 @@ impl Tree {
         if left == 0 {
             return false;
         }
-        let up = self.parent[j] as usize;
+        let up = self.tree.parent[j] as usize;
         self.climbs_through(v, x, i, left - 1, up)
     }
 
-    // the subtree of v, of n nodes: those that climb through it
+    // the subtree of v: the nodes that climb through it
     #[tactic(auto, using(crate::proofs::laws::SideLaws::passing))]
-    fn subtree(&self, n: usize, v: usize) -> u64
-        requires { Climbs n self.now.parent }
-        ensures { result ≡ word n (under self.now.parent v) }
+    fn subtree(&self, v: usize) -> u64
+        ensures { result ≡ word self.now.nodes (under self.now.tree.now.parent v) }
     {
         let mut x = node_set::empty();
-        for i in 0..n {
+        for i in 0..self.nodes {
             if self.climbs_through(v, x, i, MAX_CLIMB, i) {
                 x = node_set::add(x, i);
             }
@@ -128,15 +126,15 @@ impl Tree {
 
     // the side that holds s once the edge of v is cut
     #[tactic(auto, using(crate::proofs::laws::SideLaws::sides))]
-    fn side_of(&self, n: usize, v: usize, s: usize) -> u64
-        requires { Climbs n self.now.parent × (s < n) }
-        ensures { result ≡ side_of self.now.parent n v s }
+    fn side_of(&self, v: usize, s: usize) -> u64
+        requires { s < self.now.nodes }
+        ensures { result ≡ side_of self.now.tree.now.parent self.now.nodes v s }
     {
-        let x = self.subtree(n, v);
+        let x = self.subtree(v);
         if node_set::contains(x, s) {
             x
         } else {
-            node_set::complement(x, n)
+            node_set::complement(x, self.nodes)
         }
     }
 }
@@ -160,8 +158,12 @@ pub fn query(tree: Tree, n: usize, s: usize, t: usize) -> Result<PairFound, Refu
     ensures { as_answer result ≡ query_of tree n s t }
 {
     check_pair(n, s, t)?;
-    let node = tree.lightest_on(s, t);
-    let side = tree.side_of(n, node, s);
+    let rooted = RootedTree {
+        tree: &tree,
+        nodes: n,
+    };
+    let node = rooted.lightest_on(s, t);
+    let side = rooted.side_of(node, s);
     Ok(PairFound {
         weight: tree.weight[node],
         node,

@@ -9,6 +9,7 @@ ghost use Rattle.cut_tree.specs.code.RebuildParts.{moved_one};
 use crate::{Steps, Tree};
 use max_flow::Cut;
 use network::MAX_NODES;
+use node_set::nodes_in;
 
 // The parent p of a node of the step's side: s in place of t.
 fn moved_one(p: u8, s: u8, t: u8) -> u8
@@ -18,22 +19,19 @@ fn moved_one(p: u8, s: u8, t: u8) -> u8
 }
 
 // Every node in x with parent t gets parent s.
-#[tactic(auto, using(node_set::proofs::theorems::Members::removed_less))]
 fn move_nodes(parent: &mut [u8; MAX_NODES], x: u64, s: u8, t: u8)
     ensures { parent.new ≡ moved x s t 0 parent.old }
 {
-    let mut rest = x;
-    // Kept: these are the bits of a set; no range names them, and the library has no iterator over bits.
-    while rest != 0 {
-        let i = node_set::lowest(rest);
+    for i in nodes_in(x) {
         parent[i] = moved_one(parent[i], s, t);
-        rest = node_set::remove(rest, i);
     }
 }
 
 impl Tree {
     // Node s, of pivot t, is placed by its cut: beside t; or, where the cut's side holds the parent of t, between that
     // parent and t.
+    // Kept: s and t are asked to be nodes, by number, here, in `record` and in `step`; numbers of a type of its own
+    // would be made at each turn of the loop, with the same proof.
     pub(crate) fn place(&mut self, s: usize, t: usize, cut: Cut)
         requires { (s < max_nodes) × (t < max_nodes) × (at self.old.parent t < max_nodes) }
         ensures { self.new ≡ placed (holds cut.side (at self.old.parent t)) self.old s t cut.side cut.value }

@@ -7,7 +7,7 @@ ghost use Rattle.cut_tree.specs.Rule.{StepCut, rule, rule_by};
 
 use crate::keep::{Change, OldStep};
 use crate::{Built, Steps, Tree};
-use max_flow::{Cut, Prepared};
+use max_flow::{ArcTable, Cut, Prepared};
 use network::{MAX_NODES, ValidNetwork};
 
 impl Steps {
@@ -33,7 +33,8 @@ fn worked_out<F: Fn(usize, usize) -> Option<Cut>>(net: ValidNetwork, kept: F) ->
         → Gives net.network (F.post kept) cut
         → result ≡ rule_by cut (net.network.nodes - 1) }
 {
-    let prepared = Prepared::new(net);
+    let mut table = ArcTable::none();
+    let prepared = Prepared::new(net, &mut table);
     let mut tree = Tree {
         parent: [0; MAX_NODES],
         weight: [0; MAX_NODES],

@@ -1,7 +1,6 @@
 // A plan in the caller's memory, lent to one call after another. Every content of that memory is taken: a plan that is
 // not sound is refused with 19. Each function gives its refusal number, or 0. The work is done by value in `plan`; here
 // the plan is copied out, and what comes back is stored.
-// Kept: the C interface has numbers for refusals, and what comes with them behind pointers.
 ghost use Rattle.std.specs.Prelude.{length, ◌≡◌};
 ghost use Rattle.network.specs.Refusals.{outcome_number};
 ghost use Rattle.cut_tree.specs.Results.{as_answer};
@@ -15,6 +14,7 @@ use network::Refusal;
 use plan::{Altered, HeadroomReply, Plan};
 
 // A pair's answer as numbers: zeros beside a refusal.
+// Kept: the C interface has no `Result`.
 #[repr(C)]
 #[derive(Clone, Copy, Debug, PartialEq, Eq)]
 pub struct PairReply {
@@ -25,6 +25,8 @@ pub struct PairReply {
     pub size: usize,
 }
 
+// Kept: C has three such replies and each is flat: in a `Reply<T>` of a number and a `T` a pair's weight (`PairReply`)
+// would stand at 8 and not at 4; and a trait of replies asks for two functions in place of this one `match`.
 impl From<Result<PairFound, Refusal>> for PairReply {
     ghost from_gives = { λ r reply. reply ≡ pair_reply (as_answer r) };
 
@@ -52,6 +54,7 @@ impl From<Result<PairFound, Refusal>> for PairReply {
 }
 
 // The number of a call's result: 0, accepted, or the refusal's.
+// Kept: the C interface has numbers for refusals.
 fn number_of<T>(outcome: &Result<T, Refusal>) -> u32
     ensures { result ≡ outcome_number outcome.now }
 {
@@ -62,6 +65,7 @@ fn number_of<T>(outcome: &Result<T, Refusal>) -> u32
 }
 
 // A file's plan; beside a refusal the place of the fault and a plan of zeros, which every call refuses.
+// Kept: the C interface has a number, and behind pointers what comes with it.
 #[unsafe(no_mangle)]
 pub extern "C" fn pamzolit_open(file: &[u8], plan: &mut Plan, place: &mut usize) -> u32
     ensures { record { number = result; place = place.new; plan = plan.new }
@@ -82,6 +86,7 @@ pub extern "C" fn pamzolit_open(file: &[u8], plan: &mut Plan, place: &mut usize)
 }
 
 // Stores what a change or an undo leaves; refused, the plan stays and the count is 0.
+// Kept: the C interface has a number, and behind pointers what comes with it, here and in the two calls below.
 fn store(altered: Result<Altered, Refusal>, plan: &mut Plan, count: &mut u32) -> u32
     ensures { as_changed plan.old altered
         ≡ record { number = result; count = count.new; plan = plan.new } }

@@ -10,6 +10,7 @@ use plan::Plan;
 
 impl Window {
     // The first reading sets the lowest, whatever stands there.
+    // Kept: C's record has three numbers and no room for an option: a count of 0 says that there is no lowest yet.
     fn lowest_by(self, headroom: i32) -> i32
         ensures { result ≡ lowest_by self.count self.lowest headroom }
     {

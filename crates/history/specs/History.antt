@@ -1,7 +1,8 @@
 -- Demand 3: what is claimed of every list of change, undo, pair, flow and preview calls from an accepted opening. One
 -- claim, about the whole list.
 use Rattle.std.specs.Prelude.{ℕ, ◌-◌, ◌≤◌, ◌<◌, ◌≡◌, ◌≢◌, true, false, length, take, set, ℤ, pos}
-use mathlib.Core.List.{List, [], ◌∷◌, tail}
+use Rattle.std.specs.Prelude.{List, [], ◌∷◌}
+use mathlib.Core.List.{tail}
 use Rattle.base.specs.Basics.{blank_from, among}
 use Rattle.base.specs.Checks.{accepted}
 use Rattle.network.specs.Network.{with_capacity, min_cut_value, LawfulFlow, total_of}

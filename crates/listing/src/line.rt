@@ -5,7 +5,8 @@ ghost use Rattle.listing.specs.Listing.{decimals_of, line_of};
 ghost use Rattle.listing.specs.code.Adds.{Adds, Room};
 
 // A listing while it is written: its buffer, and the place behind what stands there.
-// Kept: the library does not allocate, so that no string can grow here.
+// Kept: the library does not allocate, so that no string can grow here; and of std's `Cursor` only `write` tells which
+// bytes it wrote, and gives a result to unwrap each time.
 #[derive(Drop)]
 pub struct Lines<'a> {
     pub out: &'a mut [u8],

@@ -39,10 +39,7 @@ impl Lines<'_> {
         requires { Room self.old (pair_line p s t) }
         ensures { Adds self.old (pair_line p s t) self.new }
     {
-        let (weight, side) = match plan::pair(p, s, t) {
-            Ok(found) => (found.weight, found.side),
-            Err(_) => (0, 0),
-        };
+        let (weight, side) = plan::pair(p, s, t).map_or((0, 0), |found| (found.weight, found.side));
         self.line(b"pair", &[s as u64, t as u64, weight as u64, side]);
     }
 

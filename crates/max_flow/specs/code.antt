@@ -5,4 +5,5 @@ pub mod Scan
 pub mod Push
 pub mod LinkFlows
 pub mod Send
+pub mod Sender
 pub mod Augment

@@ -2,16 +2,15 @@
 // finds.
 ghost use Rattle.std.specs.Prelude.{length, ◌≡◌, ℕ, ◌-◌, ◌≤◌};
 ghost use Rattle.base.specs.Basics.{at};
-ghost use Rattle.max_flow.specs.LeastCut.{Endpoints};
 ghost use Rattle.max_flow.specs.code.Augment.{Augmented};
 ghost use Rattle.max_flow.specs.code.Push.{Sending};
 ghost use Rattle.max_flow.specs.code.Residuals.{Sent};
 ghost use Rattle.network.specs.declared.Network.{Network};
 
 use crate::Cut;
+use crate::ends::Ends;
 use crate::flow::Flow;
 use crate::flows::write_flow;
-use crate::prepared::Prepared;
 use crate::residual::along;
 use crate::search::SearchTree;
 use flow_hints::{Hints, Residual};
@@ -27,7 +26,8 @@ fn push(tree: &SearchTree, d: u32, hints: &mut Hints, residual: Residual) -> Res
 {
     let mut left = residual;
     let mut i = tree.count - 1;
-    // Kept: a walk back along the tree, which no range names.
+    // Kept: `successors` gives the root, too, at which nothing is pushed, and the place before each has to be asked for
+    // a second time.
     while i > 0 {
         let e = tree.arc[i] as usize;
         let f = tree.from[i] as usize;
@@ -40,21 +40,24 @@ fn push(tree: &SearchTree, d: u32, hints: &mut Hints, residual: Residual) -> Res
     left
 }
 
-impl Prepared {
+impl Ends<'_> {
     // Flow is sent until no search reaches t. `total` is carried along and raised by each improvement: at every turn it
     // is what leaves s less what enters s, of the flow that `flow` holds (`Flowing`). What was reached at the end is
     // the least minimum cut, and what each link carries is written to `out`, as far as that has places.
-    pub(crate) fn augment(&self, s: usize, t: usize, out: &mut [i32]) -> Cut
-        requires { Endpoints self.now.network s t × (length out.old ≤ self.now.network.links) }
-        ensures { Augmented self.now.network s t result out.old out.new }
+    pub(crate) fn augment(self, out: &mut [i32]) -> Cut
+        requires { length out.old ≤ self.prepared.now.network.links }
+        ensures { Augmented self.entry.prepared.now.network self.entry.s self.entry.t result out.old out.new }
     {
-        let mut flow = self.start;
+        let mut flow = Flow {
+            residual: self.prepared.full,
+            hints: self.prepared.hints,
+        };
         let mut total: u32 = 0;
         loop {
-            total = self.send_all(&mut flow, s, t, total);
-            let tree = self.search(flow.residual, s, t);
-            if !contains(tree.reached, t) {
-                write_flow(&self.start.residual, &flow.residual, out);
+            total = self.send_all(&mut flow, total);
+            let tree = self.search(flow.residual);
+            if !contains(tree.reached, self.t) {
+                write_flow(&self.prepared.full, &flow.residual, out);
                 return Cut {
                     side: tree.reached,
                     value: total,

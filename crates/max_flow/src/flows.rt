@@ -11,6 +11,8 @@ pub fn write_flow(full: &Residual, residual: &Residual, out: &mut [i32])
     requires { Moderate full.now residual.now (length out.old) }
     ensures { out.new ≡ link_flows full.now residual.now out.old }
 {
+    // Kept: tried by `zip`; what is written through a `zip` of `iter_mut` is not known after its loop, so that no
+    // invariant can say it.
     for (k, carries) in out.iter_mut().enumerate() {
         *carries = full[k][0] as i32 - residual[k][0] as i32;
     }

@@ -2,6 +2,7 @@
 #![tactic(auto)]
 
 mod augment; // flow sent until no search reaches the sink
+mod ends; // two nodes, and the network that they are of
 mod flow; // the flow as it grows
 mod flows; // what each link carries
 mod prepared; // what the cuts of one network share
@@ -13,7 +14,9 @@ ghost use Rattle.std.specs.Prelude.{length, ◌≡◌};
 ghost use Rattle.max_flow.specs.LargestFlow.{LargestFlow};
 ghost use Rattle.max_flow.specs.LeastCut.{Endpoints, least_cut_of};
 
+use crate::ends::Ends;
 pub use crate::prepared::Prepared;
+pub use flow_hints::ArcTable;
 use network::ValidNetwork;
 
 // A cut: one of its sides, and its value.
@@ -24,11 +27,14 @@ pub struct Cut {
 }
 
 // The least minimum cut of (s, t) (the paper: the least side), with its value.
+// Kept: what is public asks that s and t are two nodes of the network, as `Ends` does: a caller has them by number, and
+// would show the same where it makes a struct of them.
 pub fn least_min_cut(net: ValidNetwork, s: usize, t: usize) -> Cut
     requires { Endpoints net.network s t }
     ensures { result ≡ least_cut_of net.network s t }
 {
-    Prepared::new(net).least_cut(s, t)
+    let mut table = ArcTable::none();
+    Prepared::new(net, &mut table).least_cut(s, t)
 }
 
 // A lawful flow from s to t of the largest total, a number for each link. Which one is left open.
@@ -37,5 +43,12 @@ pub fn lawful_flow(net: ValidNetwork, s: usize, t: usize, out: &mut [i32])
     requires out_len { length out.old ≡ net.network.links }
     ensures { LargestFlow net.network s t out.new }
 {
-    let _cut = Prepared::new(net).augment(s, t, out);
+    let mut table = ArcTable::none();
+    let prepared = Prepared::new(net, &mut table);
+    let ends = Ends {
+        prepared: &prepared,
+        s,
+        t,
+    };
+    let _cut = ends.augment(out);
 }

@@ -5,38 +5,39 @@ ghost use Rattle.network.specs.Network.{network_fits};
 ghost use Rattle.network.specs.code.Incidence.{Chains};
 
 use crate::Cut;
-use crate::flow::Flow;
+use crate::ends::Ends;
 use crate::residual::full_residual;
-use flow_hints::{ArcTable, Hints};
+use flow_hints::{ArcTable, Hints, Residual};
 use network::{Incidence, Network, ValidNetwork, incidence_of};
 
 // A network with its arcs, their table, and the flow of nothing to start with.
 #[derive(Clone, Copy)]
-pub struct Prepared {
+pub struct Prepared<'a> {
     pub network: Network,
     pub(crate) arcs: Incidence,
-    pub(crate) table: ArcTable,
-    pub(crate) start: Flow,
+    pub(crate) table: &'a ArcTable,
+    pub(crate) full: Residual,
+    pub(crate) hints: Hints,
     pub ghost fits: { network_fits network ≡ true },
     pub ghost chains: { Chains network (2 * network.links) arcs.first arcs.next arcs.to },
-    pub ghost unsent: { start.residual ≡ full_residual network },
+    pub ghost unsent: { full ≡ full_residual network },
 }
 
-impl Prepared {
+impl<'a> Prepared<'a> {
     ghost use Rattle.max_flow.specs.LeastCut.{Endpoints, least_cut_of};
 
-    // what the cuts of this network share, made once
-    pub fn new(net: ValidNetwork) -> Prepared
+    // What the cuts of this network share, made once. The table, of no arcs so far, is filled in the caller's memory,
+    // since it is large.
+    pub fn new(net: ValidNetwork, table: &'a mut ArcTable) -> Prepared<'a>
         ensures { result.network ≡ net.network }
     {
+        table.fill(net);
         Prepared {
             network: net.network,
             arcs: incidence_of(net),
-            table: ArcTable::new(net),
-            start: Flow {
-                residual: full_residual(net),
-                hints: Hints::start(net),
-            },
+            table,
+            full: full_residual(net),
+            hints: Hints::start(net),
         }
     }
 
@@ -45,7 +46,12 @@ impl Prepared {
         requires { Endpoints self.now.network s t }
         ensures { result ≡ least_cut_of self.now.network s t }
     {
+        let ends = Ends {
+            prepared: self,
+            s,
+            t,
+        };
         let mut none = [0i32; 0];
-        self.augment(s, t, &mut none)
+        ends.augment(&mut none)
     }
 }

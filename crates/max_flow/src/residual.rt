@@ -8,7 +8,8 @@ use flow_hints::Residual;
 use network::ValidNetwork;
 
 // no limit to what can be sent
-// Kept: an option of a limit would be asked for at each step, and this number is never reached.
+// Kept: with an option of a limit an opening takes 12 to 16 in 100 longer, and a sparse one misses its target
+// (docs/BENCHMARKS.md, "Forms").
 pub const UNLIMITED: u32 = u32::MAX;
 
 // Nothing is sent yet: each link may take its capacity each way, and an unused place has none.

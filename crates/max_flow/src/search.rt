@@ -1,10 +1,9 @@
 // The search for an augmenting path (the paper: the search for a way), over the arcs that have residual capacity.
 ghost use Rattle.std.specs.Prelude.{◌≡◌, ◌<◌};
-ghost use Rattle.max_flow.specs.LeastCut.{Endpoints};
 ghost use Rattle.max_flow.specs.code.Search.{seed_of, Searched};
 ghost use Rattle.network.specs.Limits.{max_nodes};
 
-use crate::prepared::Prepared;
+use crate::ends::Ends;
 use crate::residual::UNLIMITED;
 use flow_hints::{Residual, room};
 use network::MAX_NODES;
@@ -12,8 +11,8 @@ use node_set::{add, contains, empty};
 
 // The nodes reached, by place, in the order in which they were: node[i] was entered by arc[i] from the node at the
 // earlier place from[i], and bottleneck[i] can be sent to it along the tree.
-// Kept: fixed memory, so the places are counted beside the arrays; one array of records pads each place to half as much
-// again, and what is promised of the tree speaks of each array by itself.
+// Kept: fixed memory, so the places are counted beside the arrays; with one array of records an opening takes 5 to 10
+// in 100 longer, and a sparse one misses its target (docs/BENCHMARKS.md, "Forms").
 #[derive(Clone, Copy)]
 pub struct SearchTree {
     pub count: usize,
@@ -38,23 +37,23 @@ fn seed(s: usize) -> SearchTree
     }
 }
 
-impl Prepared {
+impl Ends<'_> {
     // Breadth first, until t is reached. The places before i are done: what their arcs lead to is reached.
-    // Kept: the tree grows as its places are gone over, so no range names them, and one of all places needs a break.
-    pub(crate) fn search(&self, residual: Residual, s: usize, t: usize) -> SearchTree
-        requires { Endpoints self.now.network s t }
-        ensures { Searched self.now.network residual s t result }
+    // Kept: the project asks for nested loops here, left by a label at the first arc that reaches t; the tree grows as
+    // its places are gone over, so no range names them.
+    pub(crate) fn search(self, residual: Residual) -> SearchTree
+        ensures { Searched self.entry.prepared.now.network residual self.entry.s self.entry.t result }
     {
-        let arcs = &self.arcs;
+        let Ends { prepared, s, t } = self;
+        let arcs = &prepared.arcs;
         let mut tree = seed(s);
         let mut i: usize = 0;
         'search: while i < tree.count {
             let u = tree.node[i] as usize;
-            let mut e = arcs.first[u] as usize;
-            // Kept: a walk along a chain of arcs, which no range names.
-            while e > 0 {
-                let j = e - 1;
-                e = arcs.next[j] as usize;
+            let mut link = arcs.first[u];
+            // Kept: a walk along a chain of arcs; by `successors` such a walk takes longer (flow_hints, `with_room`).
+            while let Some(j) = link.arc() {
+                link = arcs.next[j];
                 let x = arcs.to[j] as usize;
                 if !contains(tree.reached, x) {
                     let d = room(&residual, j);

@@ -1,15 +1,16 @@
 // Flow sent in phases: along arcs that the hints name, from ring to ring around t. Each arc is tested before it is
 // used, so that what is sent is a flow whatever the hints say.
-ghost use Rattle.std.specs.Prelude.{◌≡◌, ◌<◌, ◌≤◌};
-ghost use Rattle.max_flow.specs.LeastCut.{Endpoints};
+ghost use Rattle.std.specs.Prelude.{true, ◌≡◌, ◌<◌, ◌≤◌};
+ghost use Rattle.flow_hints.specs.code.Hints.{room_of};
 ghost use Rattle.max_flow.specs.code.Residuals.{Balanced, Flowing};
-ghost use Rattle.max_flow.specs.code.Send.{other_way, Sends, Way};
+ghost use Rattle.max_flow.specs.code.Send.{other_way};
 ghost use Rattle.network.specs.Limits.{max_arcs, max_nodes};
 
+use crate::ends::Ends;
 use crate::flow::Flow;
 use crate::prepared::Prepared;
 use crate::residual::{UNLIMITED, along};
-use flow_hints::{Residual, Step, room};
+use flow_hints::{Step, room};
 use network::{MAX_ARCS, MAX_NODES};
 use node_set::{add, contains, lowest, single};
 
@@ -25,6 +26,15 @@ struct Load {
     ghost ring_within: { ring < max_nodes },
 }
 
+// What stays the same while flow is sent on: the network with its arcs, and the sink t.
+// Kept: `Ends` without s; with `Ends` in its place, which the recursion hands on in three words, an opening takes 3 to
+// 4 in 100 longer.
+#[derive(Clone, Copy)]
+struct Sender<'a> {
+    prepared: &'a Prepared<'a>,
+    t: usize,
+}
+
 // the arc back
 fn other_way(j: usize) -> usize
     requires { j < max_arcs }
@@ -33,66 +43,55 @@ fn other_way(j: usize) -> usize
     j + 1 - 2 * (j % 2)
 }
 
-impl Prepared {
-    // What may be sent by `step`, if its arc leads from u to its node and that is not one of `on`; else 0.
-    // Kept: it is an amount, of which the lesser with a limit is taken; an option would be made 0 there again.
-    fn allowed(&self, residual: &Residual, on: u64, u: usize, step: Step) -> u32
-        requires step_lt_max_nodes { step.node < max_nodes }
-        requires balanced { Balanced self.now.network residual.now }
-        ensures { 0 < result → Way self.now.network residual.now on u step.node step.arc result }
+// Kept: three methods ask that the residual capacities are balanced. A struct of which that is a fact holds the flow
+// beside the network and t, and is lent as a whole: each contract would have to say that these two stay the same.
+impl Sender<'_> {
+    ghost use Rattle.max_flow.specs.code.Sender.{Onward, SendsLoad};
+
+    // whether `step` leads on: its arc from the load's node to that of the step, which is not on the way already
+    fn leads_on(self, load: Load, step: Step) -> bool
+        ensures { result ≡ true → Onward self.entry load step }
     {
-        let x = step.node;
-        let j = step.arc;
-        let tip = self.arcs.to[j] as usize;
-        if tip != x {
-            return 0;
-        }
-        let back = other_way(j);
-        let tail = self.arcs.to[back] as usize;
-        if tail != u {
-            return 0;
-        }
-        if contains(on, x) {
-            return 0;
-        }
-        room(residual, j)
+        let to = &self.prepared.arcs.to;
+        let tip = to[step.arc] as usize;
+        let tail = to[other_way(step.arc)] as usize;
+        tip == step.node && tail == load.node && !contains(load.on, step.node)
     }
 
     // Sends the load to t by `step`, and on from there; how much that is.
     #[cycle(send_send_by_send_from)]
-    fn send_by(&self, flow: &mut Flow, t: usize, load: Load, step: Step) -> u32
-        requires t_lt_max_nodes { t < max_nodes }
-        requires step_lt_max_nodes { step.node < max_nodes }
-        requires balanced { Balanced self.now.network flow.old.residual }
-        ensures { Sends self.now.network t load.on load.node load.limit result flow.old.residual flow.new.residual }
+    fn send_by(self, flow: &mut Flow, load: Load, step: Step) -> u32
+        requires balanced { Balanced self.prepared.now.network flow.old.residual }
+        requires has_room { 0 < room_of flow.old.residual step.arc }
+        ensures { SendsLoad self.entry load result flow.old.residual flow.new.residual }
     {
-        let spare = self.allowed(&flow.residual, load.on, load.node, step);
-        let want = spare.min(load.limit);
-        if want == 0 {
+        if !self.leads_on(load, step) {
             flow.hints.note_shut(load.node, step.node);
             return 0;
         }
+        let spare = room(&flow.residual, step.arc);
+        let want = spare.min(load.limit);
         let next = Load {
             node: step.node,
             ring: load.ring,
             on: add(load.on, step.node),
             limit: want,
         };
-        let d = self.send_from(flow, t, next);
+        let d = self.send_from(flow, next);
         along(&mut flow.residual, step.arc, d);
-        flow.hints.note_sent(&self.table, load.node, step, spare, d);
+        flow.hints
+            .note_sent(self.prepared.table, load.node, step, spare, d);
         flow.hints.note_short(step.node, load.ring, want, d);
         d
     }
 
     // The same from a node of the load's ring: all of it at t itself, else what can be sent on to the ring below.
     #[cycle(send_send_by_send_from)]
-    fn send_from(&self, flow: &mut Flow, t: usize, load: Load) -> u32
-        requires t_lt_max_nodes { t < max_nodes }
-        requires balanced { Balanced self.now.network flow.old.residual }
-        ensures { Sends self.now.network t load.on load.node load.limit result flow.old.residual flow.new.residual }
+    fn send_from(self, flow: &mut Flow, load: Load) -> u32
+        requires { Balanced self.prepared.now.network flow.old.residual }
+        ensures { SendsLoad self.entry load result flow.old.residual flow.new.residual }
     {
-        if load.node == t {
+        if load.node == self.t {
             return load.limit;
         }
         if load.ring == 0 {
@@ -104,15 +103,14 @@ impl Prepared {
             on: load.on,
             limit: load.limit,
         };
-        self.send(flow, t, next)
+        self.send(flow, next)
     }
 
     // The same along arcs that the hints name to the load's ring, as long as they name one.
     #[cycle(send_send_by_send_from)]
-    fn send(&self, flow: &mut Flow, t: usize, load: Load) -> u32
-        requires t_lt_max_nodes { t < max_nodes }
-        requires balanced { Balanced self.now.network flow.old.residual }
-        ensures { Sends self.now.network t load.on load.node load.limit result flow.old.residual flow.new.residual }
+    fn send(self, flow: &mut Flow, load: Load) -> u32
+        requires { Balanced self.prepared.now.network flow.old.residual }
+        ensures { SendsLoad self.entry load result flow.old.residual flow.new.residual }
     {
         let mut sent: u32 = 0;
         let mut last: Option<Step> = None;
@@ -121,9 +119,11 @@ impl Prepared {
             if rest == 0 {
                 return sent;
             }
-            let step = self
-                .table
-                .step(&flow.residual, load.node, lowest(rest), last);
+            let x = lowest(rest);
+            let Some(step) = self.prepared.table.step(&flow.residual, load.node, x, last) else {
+                flow.hints.note_shut(load.node, x);
+                continue;
+            };
             last = Some(step);
             let left = Load {
                 node: load.node,
@@ -131,7 +131,7 @@ impl Prepared {
                 on: load.on,
                 limit: load.limit - sent,
             };
-            let d = self.send_by(flow, t, left, step);
+            let d = self.send_by(flow, left, step);
             sent = sent + d;
             if sent == load.limit {
                 return sent;
@@ -139,14 +139,18 @@ impl Prepared {
         }
         sent
     }
+}
 
+impl Ends<'_> {
     // Flow is sent from s to t in phases, as long as the hints find a way. `total` is that of the flow which `flow`
     // holds; each phase raises it by what it sends, and the result is that of the flow then.
-    pub(crate) fn send_all(&self, flow: &mut Flow, s: usize, t: usize, total: u32) -> u32
-        requires { Endpoints self.now.network s t × Flowing self.now.network s t total flow.old.residual }
+    pub(crate) fn send_all(self, flow: &mut Flow, total: u32) -> u32
+        requires { Flowing self.prepared.now.network self.s self.t total flow.old.residual }
         ensures lower_bound { total ≤ result }
-        ensures flowing { Flowing self.now.network s t result flow.new.residual }
+        ensures flowing { Flowing self.entry.prepared.now.network self.entry.s self.entry.t result flow.new.residual }
     {
+        let Ends { prepared, s, t } = self;
+        let sender = Sender { prepared, t };
         let mut raised = total;
         for _ in 0..MAX_NODES {
             let Some(ring) = flow.hints.sweep(s, t) else {
@@ -158,7 +162,7 @@ impl Prepared {
                 on: single(s),
                 limit: UNLIMITED,
             };
-            let d = self.send(flow, t, load);
+            let d = sender.send(flow, load);
             raised = raised + d;
         }
         raised

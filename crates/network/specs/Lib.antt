@@ -2,5 +2,5 @@
 pub mod Limits
 pub mod Refusals
 pub mod Network
--- what contracts of the code cite: each node's own arcs
+-- what contracts of the code cite: each node's own arcs, the links one by one
 pub mod code

@@ -10,7 +10,8 @@ pub trait Word: Copy {
         ensures { result ≡ eqb (value self) 0 };
 }
 
-// Kept: an impl for each type; `Into<u64>` would give no test of 0 but a cast, and its contract at each of four types.
+// Kept: an impl for each type. `Zero` of the toolchain's num_traits has this test, but tells the value as a signed
+// number, which the clause of `blank_from` would have to turn back; and `Into<u64>` gives a cast and no test.
 impl Word for u8 {
     ghost value = { λ x. x };
 

@@ -1,22 +1,26 @@
 // The network (docs/SCOPE.md, 1): the record, the test of its limits, and what searches and trials need of it.
 #![tactic(auto)]
 
+mod arc_link; // an arc, or none
 mod blank; // unused places
 mod cut; // the value of a cut
 mod incidence; // each node's own arcs, for a search to walk
 mod link; // one link
+mod links; // its links, one by one
 mod refusals; // the refusals and their numbers
 mod valid; // a network within the limits
 
-ghost use Rattle.std.specs.Prelude.{◌≡◌, ◌≤◌, ◌<◌};
+ghost use Rattle.std.specs.Prelude.{◌≡◌, ◌≤◌, ◌<◌, set};
 ghost use Rattle.base.specs.Basics.{at, all};
 ghost use Rattle.network.specs.Limits.{max_links};
 ghost use Rattle.network.specs.Network.{link_fits, network_fits};
 
+pub use arc_link::ArcLink;
 pub use blank::{Word, blank_from};
 pub use cut::cut_value;
 pub use incidence::{Incidence, incidence_of};
 pub use link::Link;
+pub use links::Links;
 pub use refusals::Refusal;
 pub use valid::ValidNetwork;
 
@@ -35,6 +39,7 @@ pub const MAX_GROUPS: usize = 3;
 
 // A network: nodes 0 to nodes - 1, and links of which link k joins a[k] and b[k] and has capacity[k]. Unused places are
 // 0.
+// Kept: the C interface gives the links as three arrays of a fixed length.
 #[repr(C)]
 #[derive(Clone, Copy, Debug, PartialEq, Eq)]
 pub struct Network {
@@ -47,6 +52,8 @@ pub struct Network {
 
 impl Network {
     // link k by itself
+    // Kept: k is asked to be a place of the arrays here, in set_link and where a plan stacks a change; a number of a
+    // type of its own would be made, with that proof, at each call.
     pub fn link(&self, k: usize) -> Link
         requires { k < max_links }
         ensures a { result.a ≡ at self.now.a k }
@@ -58,6 +65,20 @@ impl Network {
             b: self.b[k],
             capacity: self.capacity[k],
         }
+    }
+
+    // puts link k, where any link may stand
+    pub fn set_link(&mut self, k: usize, link: Link)
+        requires { k < max_links }
+        ensures nodes { self.new.nodes ≡ self.old.nodes }
+        ensures links { self.new.links ≡ self.old.links }
+        ensures a { self.new.a ≡ set self.old.a k link.a }
+        ensures b { self.new.b ≡ set self.old.b k link.b }
+        ensures capacity { self.new.capacity ≡ set self.old.capacity k link.capacity }
+    {
+        self.a[k] = link.a;
+        self.b[k] = link.b;
+        self.capacity[k] = link.capacity;
     }
 
     fn links_fit(&self) -> bool

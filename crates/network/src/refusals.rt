@@ -5,7 +5,7 @@ ghost use Rattle.network.specs.Refusals.{refusal_number};
 use std::error::Error;
 use std::fmt;
 
-#[derive(Clone, Copy, Debug, PartialEq, Eq)]
+#[derive(Clone, Copy, Debug, PartialEq, Eq, PartialOrd, Ord)]
 pub enum Refusal {
     // a file: the number that is faulty, or what follows the last
     EndsEarly = 1,

@@ -15,12 +15,12 @@ use network::{Link, MAX_CAPACITY, MAX_LINKS, Network, Refusal, ValidNetwork};
 struct Reader<'a> {
     file: &'a [u8],
     place: usize,
+    ghost within: { place ≤ length file.now },
 }
 
 impl Reader<'_> {
     // The next number, by its row.
     fn take(&mut self, row: Row) -> Result<u32, Fault>
-        requires { self.old.place ≤ length self.old.file.now }
         ensures file { self.new.file.now ≡ self.old.file.now }
         ensures value { as_taken self.new.place result ≡ taken self.old.file.now self.old.place (row_of row) }
     {
@@ -34,7 +34,7 @@ impl Reader<'_> {
 
     // The next link, of a network of n nodes; its third number passes the row given.
     fn link(&mut self, n: usize, third: Row) -> Result<Link, Fault>
-        requires { (self.old.place ≤ length self.old.file.now) × (n ≤ max_nodes) }
+        requires { n ≤ max_nodes }
         ensures file { self.new.file.now ≡ self.old.file.now }
         ensures value { as_link self.new.place result ≡ link_at (row_of third) self.old.file.now self.old.place n }
     {
@@ -50,7 +50,7 @@ impl Reader<'_> {
 
     // The next m links, of a network of n nodes.
     fn links(&mut self, n: usize, m: usize, third: Row) -> Result<Network, Fault>
-        requires { (self.old.place ≤ length self.old.file.now) × (n ≤ max_nodes) × (m ≤ max_links) }
+        requires { (n ≤ max_nodes) × (m ≤ max_links) }
         ensures file { self.new.file.now ≡ self.old.file.now }
         ensures value { as_progress self.new.place result
             ≡ read_links (row_of third) self.old.file.now m (going self.old.place (unread n m)) }
@@ -62,12 +62,9 @@ impl Reader<'_> {
             b: [0u8; MAX_LINKS],
             capacity: [0u32; MAX_LINKS],
         };
-        // Kept: the network's arrays are the C interface's, and one index names the places of all three
         for k in 0..m {
             let link = self.link(n, third)?;
-            network.a[k] = link.a;
-            network.b[k] = link.b;
-            network.capacity[k] = link.capacity;
+            network.set_link(k, link);
         }
         Ok(network)
     }

@@ -17,17 +17,10 @@ fn link_length(link: Link) -> usize
 }
 
 // How many bytes all links have.
-#[tactic(auto, using(crate::proofs::laws::WritingSteps::limits))]
 fn links_length(net: ValidNetwork) -> usize
     ensures { result ≡ length (link_bytes net.network net.network.links) }
 {
-    let net = net.network;
-    // Kept: the library's `sum` asks for the bound of the whole sum at once; here each turn has its own.
-    let mut sum: usize = 0;
-    for k in 0..net.links {
-        sum += link_length(net.link(k));
-    }
-    sum
+    net.each_link().map(link_length).sum()
 }
 
 // How many bytes a network's file has.
@@ -41,7 +34,9 @@ pub fn file_length(net: ValidNetwork) -> usize
 }
 
 // A buffer, and the place where writing goes on.
-// Kept: `listing` has a writer of lines like it; the two share two fields, and no method: what each puts differs.
+// Kept: `listing` has a struct with these two fields, too. Of std's `Cursor` only `write` tells which bytes it wrote,
+// and gives a result to unwrap each time; and the methods of a struct for both crates would be functions or a trait of
+// each.
 #[derive(Drop)]
 struct Writer<'a> {
     out: &'a mut [u8],
@@ -99,9 +94,8 @@ impl Writer<'_> {
         requires { HasRoom self.old (link_bytes net.network net.network.links) }
         ensures { Wrote self.old self.new (link_bytes net.network net.network.links) }
     {
-        let net = net.network;
-        for k in 0..net.links {
-            self.put_link(net.link(k));
+        for link in net.each_link() {
+            self.put_link(link);
         }
     }
 }

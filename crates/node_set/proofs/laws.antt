@@ -1,3 +1,4 @@
 -- Lemmas, for the proofs. Nothing here has to be believed.
 pub mod BitLaws
 pub mod SizeLaws
+pub mod LowestLaws

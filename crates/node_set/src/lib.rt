@@ -2,11 +2,15 @@
 // definition of the same name in specs/Set.antt.
 #![tactic(auto)]
 
+mod members; // the nodes of a set, one by one
+
 ghost use Rattle.std.specs.Prelude.{◌≡◌, ◌^◌, ◌<◌, ◌≤◌};
 ghost use Rattle.base.specs.Word.{holds};
 ghost use Rattle.node_set.specs.Set.{width, empty, single, added, removed, union, intersection, difference};
 ghost use Rattle.node_set.specs.Set.{all_below, complement_in, included};
 ghost use Rattle.node_set.specs.Set.{Lowest, Counted};
+
+pub use members::{Members, nodes_in};
 
 // how many nodes a word has room for
 const WIDTH: usize = u64::BITS as usize;
@@ -18,6 +22,8 @@ pub fn empty() -> u64
     0
 }
 
+// Kept: i is asked to be below the width here and in three functions below; a number of a type of its own would be
+// made, with that proof, at each call, out of a place in an array or a node of a network.
 #[tactic(auto, using(crate::proofs::laws::BitLaws::one_shifted), unfolding(crate::specs::Set::single))]
 pub fn single(i: usize) -> u64
     requires { i < width }

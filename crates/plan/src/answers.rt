@@ -14,13 +14,13 @@ pub const MAX_DEMAND: u32 = 1_000_000_000;
 
 // The lightest edge of the tree path between s and t, the lowest number among equals, with the side that holds s once
 // that edge is cut.
+// Kept: this call and the others take a plan, two nodes, a link and a capacity one by one, as C's calls do, which hand
+// them on.
 #[tactic(auto, using(crate::proofs::laws::AnswersLaws::pairing))]
 pub fn pair(p: Plan, s: usize, t: usize) -> Result<PairFound, Refusal>
     ensures { as_answer result ≡ pair_of p s t }
 {
-    if !p.is_sound() {
-        return Err(Refusal::NotSound);
-    }
+    p.check_sound()?;
     cut_tree::query(p.tree, p.network.nodes, s, t)
 }
 
@@ -40,6 +40,8 @@ pub fn headroom(p: Plan, s: usize, t: usize, demand: u32) -> Result<HeadroomFoun
     })
 }
 
+// Kept: C has three such replies and each is flat: in a `Reply<T>` of a number and a `T` a pair's weight (`PairReply`)
+// would stand at 8 and not at 4; and a trait of replies asks for two functions in place of this one `match`.
 impl From<Result<HeadroomFound, Refusal>> for HeadroomReply {
     ghost from_gives = { λ r reply. reply ≡ as_headroom r };
 

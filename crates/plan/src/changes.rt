@@ -40,9 +40,7 @@ pub fn change(p: Plan, k: usize, c: u32) -> Result<Altered, Refusal>
 pub fn undo(p: Plan) -> Result<Altered, Refusal>
     ensures { as_changed p result ≡ undo_of p }
 {
-    if !p.is_sound() {
-        return Err(Refusal::NotSound);
-    }
+    p.check_sound()?;
     let mut stack = p.stack;
     let Some((k, c)) = stack.pop() else {
         return Err(Refusal::NothingToUndo);

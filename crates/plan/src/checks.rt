@@ -10,9 +10,7 @@ use network::{MAX_CAPACITY, Refusal};
 pub fn check_change(p: Plan, k: usize, c: u32) -> Result<(), Refusal>
     ensures { outcome_number result ≡ change_number p k c }
 {
-    if !p.is_sound() {
-        return Err(Refusal::NotSound);
-    }
+    p.check_sound()?;
     if k >= p.network.links {
         return Err(Refusal::NoSuchLink);
     }

@@ -74,9 +74,7 @@ pub fn write(p: Plan, out: &mut [u8]) -> Result<usize, Refusal>
     ensures value { as_written result ≡ write_of p (length out.old) }
     ensures out_after { out.new ≡ written_to p out.old }
 {
-    if !p.is_sound() {
-        return Err(Refusal::NotSound);
-    }
+    p.check_sound()?;
     let net = ValidNetwork { network: p.network };
     network_file::write(net, &mut *out)
 }

@@ -10,9 +10,7 @@ use network::{Refusal, ValidNetwork};
 pub fn flow(p: Plan, s: usize, t: usize, out: &mut [i32]) -> Result<(), Refusal>
     ensures { Flowed p s t out.old (outcome_number result) out.new }
 {
-    if !p.is_sound() {
-        return Err(Refusal::NotSound);
-    }
+    p.check_sound()?;
     cut_tree::check_pair(p.network.nodes, s, t)?;
     if out.len() != p.network.links {
         return Err(Refusal::FlowLength);

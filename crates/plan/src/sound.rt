@@ -1,8 +1,9 @@
 // Whether a plan, whatever it holds, is sound (docs/SCOPE.md, 7; number 19). Every call on a
 // plan asks it first, so the tests go over the arrays once each.
-ghost use Rattle.std.specs.Prelude.{ltb, true, ◌≡◌, ◌<◌, ◌≤◌};
+ghost use Rattle.std.specs.Prelude.{ltb, true, false, MatchResult, ◌≡◌, ◌<◌, ◌≤◌};
 ghost use Rattle.std.specs.List.{list_all};
 ghost use Rattle.base.specs.Basics.{all, at};
+ghost use Rattle.network.specs.declared.refusals.Refusal.TheVariants.{NotSound};
 ghost use Rattle.plan.specs.Plan.{max_depth, step_fits, steps_fit, entry_fits, stack_fits, sound};
 ghost use Rattle.plan.specs.code.SoundParts.{parents_within, is_edge, weight_within, weights_fit, rooted};
 ghost use Rattle.plan.specs.code.SoundParts.{tree_with_edge, root_step_within, step_within, entry_within};
@@ -10,7 +11,7 @@ ghost use Rattle.plan.specs.code.SoundParts.{tree_with_edge, root_step_within, s
 use crate::node_count::NodeCount;
 use crate::{MAX_DEPTH, Plan, Stack};
 use cut_tree::{Edge, MAX_CLIMB, Steps, Tree};
-use network::{MAX_CAPACITY, MAX_NODES, MAX_VALUE};
+use network::{MAX_CAPACITY, MAX_NODES, MAX_VALUE, Refusal};
 
 fn are_nodes(xs: &[u8], n: usize) -> bool
     ensures { result ≡ list_all (λ x. ltb x n) xs.now }
@@ -150,7 +151,7 @@ impl Stack {
 impl Plan {
     // The network first: its limits keep the other tests within the arrays.
     #[tactic(auto, using(crate::proofs::laws::Tests::rules), unfolding(crate::specs::Plan::sound))]
-    pub(crate) fn is_sound(self) -> bool
+    fn is_sound(self) -> bool
         ensures { result ≡ sound self }
     {
         if !network::fits(self.network) {
@@ -162,5 +163,16 @@ impl Plan {
         nodes.tree_fits(self.tree, self.lightest)
             && nodes.steps_fit(self.steps)
             && self.stack.fits_links(self.network.links)
+    }
+
+    // Ok, or number 19: each call asks it first.
+    pub(crate) fn check_sound(self) -> Result<(), Refusal>
+        ensures { MatchResult result (λ x. sound self ≡ true) (λ e. (e ≡ NotSound) × (sound self ≡ false)) }
+    {
+        if self.is_sound() {
+            Ok(())
+        } else {
+            Err(Refusal::NotSound)
+        }
     }
 }

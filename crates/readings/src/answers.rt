@@ -1,35 +1,30 @@
 // Commands that ask the plan.
+use crate::Session;
 use crate::print::{Found, Text};
-use plan::Plan;
 use std::io;
 
-// `pair S T`
-pub fn pair(rt: &impl Print, plan: &Plan, s: usize, t: usize) -> io::Result<()> {
-    match plan::pair(*plan, s, t) {
-        Ok(pair) => print!(rt; "{}", Found(pair)),
-        Err(refusal) => print!(rt; " refused {refusal}"),
+impl<R: Print> Session<'_, R> {
+    // `pair S T`
+    pub fn pair(&self, s: usize, t: usize) -> io::Result<()> {
+        match plan::pair(self.plan, s, t) {
+            Ok(pair) => print!(self.rt; "{}", Found(pair)),
+            Err(refusal) => print!(self.rt; " refused {refusal}"),
+        }
     }
-}
 
-// `view LINK CAPACITY S T`: a preview, the pair's answer and the change's count; refused, 0.
-pub fn view(
-    rt: &impl Print,
-    plan: &Plan,
-    link: usize,
-    capacity: u32,
-    s: usize,
-    t: usize,
-) -> io::Result<()> {
-    match plan::preview(*plan, link, capacity, s, t) {
-        Ok(preview) => print!(rt; "{} not kept {}", Found(preview.pair), preview.count),
-        Err(refusal) => print!(rt; " refused {refusal} not kept 0"),
+    // `view LINK CAPACITY S T`: a preview, the pair's answer and the change's count; refused, 0.
+    pub fn view(&self, link: usize, capacity: u32, s: usize, t: usize) -> io::Result<()> {
+        match plan::preview(self.plan, link, capacity, s, t) {
+            Ok(preview) => { print!(self.rt; "{} not kept {}", Found(preview.pair), preview.count) }
+            Err(refusal) => print!(self.rt; " refused {refusal} not kept 0"),
+        }
     }
-}
 
-// `headroom S T DEMAND`: the value, and the text between brackets; refused, 0 and spaces.
-pub fn headroom(rt: &impl Print, plan: &Plan, s: usize, t: usize, demand: u32) -> io::Result<()> {
-    match plan::headroom(*plan, s, t, demand) {
-        Ok(headroom) => print!(rt; " {} [{}]", headroom.value, Text(&headroom.text)),
-        Err(refusal) => print!(rt; " refused {refusal} 0 [{:12}]", ""),
+    // `headroom S T DEMAND`: the value, and the text between brackets; refused, 0 and spaces.
+    pub fn headroom(&self, s: usize, t: usize, demand: u32) -> io::Result<()> {
+        match plan::headroom(self.plan, s, t, demand) {
+            Ok(headroom) => print!(self.rt; " {} [{}]", headroom.value, Text(&headroom.text)),
+            Err(refusal) => print!(self.rt; " refused {refusal} 0 [{:12}]", ""),
+        }
     }
 }

@@ -1,5 +1,6 @@
 // The command `bend FIELD PLACE VALUE`, which sets one number of the plan by hand. Of the field only the first letter
 // counts.
+use crate::Session;
 use network::MAX_LINKS;
 use plan::{MAX_DEPTH, Plan};
 use std::io;
@@ -82,15 +83,11 @@ fn set_at<N: Copy>(numbers: &mut [N], place: usize, value: N) {
     }
 }
 
-pub fn bend(
-    rt: &impl Print,
-    plan: &mut Plan,
-    field: Option<Field>,
-    place: usize,
-    value: u32,
-) -> io::Result<()> {
-    if let Some(field) = field {
-        field.set(plan, place, value);
+impl<R: Print> Session<'_, R> {
+    pub fn bend(&mut self, field: Option<Field>, place: usize, value: u32) -> io::Result<()> {
+        if let Some(field) = field {
+            field.set(&mut self.plan, place, value);
+        }
+        print!(self.rt; " set")
     }
-    print!(rt; " set")
 }

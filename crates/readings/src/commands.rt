@@ -98,7 +98,6 @@ fn split_once(text: &[u8], separator: u8) -> (&[u8], &[u8]) {
 }
 
 // A number with one digit more, where that fits.
-// Kept: `parse` refuses a word with something else in it, and one that is too large.
 fn longer(number: u32, digit: u32) -> u32 {
     number
         .checked_mul(10)
@@ -106,7 +105,9 @@ fn longer(number: u32, digit: u32) -> u32 {
         .unwrap_or(number)
 }
 
-// The decimal number of a word.
+// The decimal number of a word's digits, without each that would make it too large.
+// Kept: `parse` refuses a word with something else in it, and all of a number that is too large; here `1-2` is 12, and
+// `42949672999` is 429496729.
 fn number(word: &[u8]) -> u32 {
     word.iter()
         .filter_map(|byte| char::from(*byte).to_digit(10))
@@ -119,23 +120,19 @@ fn low_bits(number: u32) -> i32 {
 }
 
 // The decimal number of a word, below zero where the word begins with a minus. A larger size is cut.
-// Kept: `parse` refuses what is passed over here, and what is cut.
+// Kept: `parse` refuses `-1x2`, which is -12 here, and `2147483648`, of which 31 bits are 0.
 fn signed(word: &[u8]) -> i32 {
     let size = number(word);
     match size.checked_sub(1) {
-        Some(less) if word.starts_with(b"-") => !low_bits(less),
+        Some(less) if word.starts_with(b"-") => -1 - low_bits(less),
         _ => low_bits(size),
     }
 }
 
-// The value of a digit, of which the letters are small.
-// Kept: `to_digit(16)` takes capital letters, too.
-fn hex_digit(byte: &u8) -> Option<u8> {
-    match *byte {
-        b'0'..=b'9' => Some(*byte - b'0'),
-        b'a'..=b'f' => Some(*byte - b'a' + 10),
-        _ => None,
-    }
+// The value of a digit of base 16, of which the letters are small.
+fn hex_digit(byte: &u8) -> Option<u32> {
+    let digit = char::from(*byte).to_digit(16);
+    digit.filter(|_| !byte.is_ascii_uppercase())
 }
 
 // The words of a command that are still to be read, with one space between two. A word that is missing is empty.
@@ -177,11 +174,11 @@ impl<'a> Words<'a> {
     // The bytes whose digits are left, two for each, wherever they stand.
     fn bytes(self, alloc: Global) -> Result<Vec<u8>, AllocError> {
         let digits = self.0.iter().filter_map(hex_digit).take(2 * MOST_BYTES);
-        let digits: Vec<u8> = digits.collect(alloc)?;
+        let digits: Vec<u32> = digits.collect(alloc)?;
         let (pairs, _half) = digits.as_chunks::<2>();
         pairs
             .iter()
-            .map(|[high, low]| *high << 4 | *low)
+            .map(|[high, low]| ((*high << 4 | *low) & 0xff) as u8)
             .collect(alloc)
     }
 }

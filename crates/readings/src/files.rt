@@ -1,6 +1,6 @@
 // Commands that open a file.
+use crate::Session;
 use network::{MAX_LINKS, MAX_NODES, Network};
-use plan::Plan;
 use std::io;
 
 // The bytes before the links of a file: n, and m in two bytes.
@@ -28,25 +28,13 @@ fn put_network(rt: &impl Print, net: &Network) -> io::Result<()> {
     }
 }
 
-// `open BYTES`: the file that the line gives. Refused, no plan is left.
-pub fn open(rt: &impl Print, plan: &mut Plan, file: &[u8]) -> io::Result<()> {
-    match plan::open(file) {
-        Ok(opened) => {
-            *plan = opened;
-            put_network(rt, &plan.network)
-        }
-        Err(fault) => {
-            *plan = plan::no_plan();
-            print!(rt; " refused {} at {}", fault.refusal, fault.place)
-        }
-    }
+// The first bytes of a file, all where there are not so many.
+fn front(file: &[u8], length: usize) -> &[u8] {
+    file.get(..length).unwrap_or(file)
 }
 
-// Opens the first bytes of a file.
-// Kept: the length is an argument of the command, and is cut to the file here, once for all callers.
-pub fn open_part(rt: &impl Print, plan: &mut Plan, file: &[u8], length: usize) -> io::Result<()> {
-    open(rt, plan, &file[..length.min(file.len())])
-}
+// Kept: one function for this file and the one of many links would be lent the head, both lengths and a closure for the
+// link, with clauses that the head fits and that a link has a byte: it would be longer than the two.
 
 // The longest file, of 64 nodes and 256 links, with one byte more, 0. Link k is to the next node, of a capacity up to
 // 1,000,000, in three bytes.
@@ -61,11 +49,6 @@ fn longest_file() -> [u8; LONGEST] {
     file
 }
 
-// `longest LENGTH`: the longest file with one byte more, its first LENGTH bytes.
-pub fn open_longest(rt: &impl Print, plan: &mut Plan, length: usize) -> io::Result<()> {
-    open_part(rt, plan, &longest_file(), length)
-}
-
 // Two nodes, m in the two bytes given, and 257 links of capacity 0 from node 0 to node 1.
 fn many_links(low: u8, high: u8) -> [u8; MANY] {
     let mut file = [0; MANY];
@@ -76,13 +59,28 @@ fn many_links(low: u8, high: u8) -> [u8; MANY] {
     file
 }
 
-// `many LOW HIGH LENGTH`: a file of 257 links with m in the bytes LOW and HIGH, its first LENGTH bytes.
-pub fn open_many(
-    rt: &impl Print,
-    plan: &mut Plan,
-    low: u8,
-    high: u8,
-    length: usize,
-) -> io::Result<()> {
-    open_part(rt, plan, &many_links(low, high), length)
+impl<R: Print> Session<'_, R> {
+    // `open BYTES`: the file that the line gives. Refused, no plan is left.
+    pub fn open(&mut self, file: &[u8]) -> io::Result<()> {
+        match plan::open(file) {
+            Ok(opened) => {
+                self.plan = opened;
+                put_network(self.rt, &opened.network)
+            }
+            Err(fault) => {
+                self.plan = plan::no_plan();
+                print!(self.rt; " refused {} at {}", fault.refusal, fault.place)
+            }
+        }
+    }
+
+    // `longest LENGTH`: the longest file with one byte more, its first LENGTH bytes.
+    pub fn open_longest(&mut self, length: usize) -> io::Result<()> {
+        self.open(front(&longest_file(), length))
+    }
+
+    // `many LOW HIGH LENGTH`: a file of 257 links with m in the bytes LOW and HIGH, its first LENGTH bytes.
+    pub fn open_many(&mut self, low: u8, high: u8, length: usize) -> io::Result<()> {
+        self.open(front(&many_links(low, high), length))
+    }
 }

@@ -1,8 +1,8 @@
 // The command `flow S T LENGTH`. Which lawful flow the call gives is free, so what every lawful one of that total has
 // is printed: the balance of each node (what leaves it less what enters it), and how many links carry more than their
 // capacity.
+use crate::Session;
 use network::{MAX_LINKS, Network};
-use plan::Plan;
 use std::io;
 
 // A buffer has one place more than links: what each holds before a call.
@@ -11,6 +11,7 @@ const PLACES: usize = MAX_LINKS + 1;
 const BEFORE: i32 = 7;
 
 // What the flow carries along the links of which this end is node x.
+// Kept: `sum` asks that each sum fits in 64 bits, and a slice may be too long: `sum-requires-clause-fits` stays open.
 fn carried(ends: &[u8], flow: &[i32], x: usize) -> i64 {
     let carries = ends.iter().zip(flow);
     carries
@@ -49,19 +50,21 @@ impl Carrying<'_> {
     }
 }
 
-// The call, with a buffer of so many numbers, and of a refused one how many places hold what they held before.
-pub fn flow(rt: &impl Print, plan: &Plan, s: usize, t: usize, length: usize) -> io::Result<()> {
-    let mut room = [BEFORE; PLACES];
-    let out = &mut room[..length.min(PLACES)];
-    match plan::flow(*plan, s, t, out) {
-        Ok(()) => Carrying {
-            net: &plan.network,
-            flow: out,
-        }
-        .put(rt),
-        Err(refusal) => {
-            let unaltered = room.iter().filter(|number| **number == BEFORE).count();
-            print!(rt; " refused {refusal} unaltered {unaltered}")
+impl<R: Print> Session<'_, R> {
+    // The call, with a buffer of so many numbers, and of a refused one how many places hold what they held before.
+    pub fn flow(&self, s: usize, t: usize, length: usize) -> io::Result<()> {
+        let mut room = [BEFORE; PLACES];
+        let out = &mut room[..length.min(PLACES)];
+        match plan::flow(self.plan, s, t, out) {
+            Ok(()) => Carrying {
+                net: &self.plan.network,
+                flow: out,
+            }
+            .put(self.rt),
+            Err(refusal) => {
+                let unaltered = room.iter().filter(|number| **number == BEFORE).count();
+                print!(self.rt; " refused {refusal} unaltered {unaltered}")
+            }
         }
     }
 }

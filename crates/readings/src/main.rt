@@ -23,62 +23,74 @@ use std::io::Read;
 // So many bytes of the input are read.
 const MAX_INPUT: u64 = 65536;
 
-// Does what a command says, on the plan and to it.
-fn obey(rt: &impl Print, plan: &mut Plan, command: Command) -> io::Result<()> {
-    match command {
-        Command::Open { file } => files::open(rt, plan, &file),
-        Command::Longest { length } => files::open_longest(rt, plan, length),
-        Command::Many { low, high, length } => files::open_many(rt, plan, low, high, length),
-        Command::Again => writing::open_again(rt, plan),
-        Command::Change { link, capacity } => changes::change(rt, plan, link, capacity),
-        Command::Undo => changes::undo(rt, plan),
-        Command::Repeat { link, capacity } => changes::repeat(rt, plan, link, capacity),
-        Command::Drain => changes::drain(rt, plan),
-        Command::Bend {
-            field,
-            place,
-            value,
-        } => bend::bend(rt, plan, field, place, value),
-        Command::Tree => show::tree(rt, plan),
-        Command::Edge => show::edge(rt, plan),
-        Command::Steps => show::steps(rt, plan),
-        Command::Network => show::network(rt, plan),
-        Command::Pair { s, t } => answers::pair(rt, plan, s, t),
-        Command::View {
-            link,
-            capacity,
-            s,
-            t,
-        } => answers::view(rt, plan, link, capacity, s, t),
-        Command::Headroom { s, t, demand } => answers::headroom(rt, plan, s, t, demand),
-        Command::Flow { s, t, length } => flows::flow(rt, plan, s, t, length),
-        Command::Gate {
-            s,
-            t,
-            demand,
-            window,
-        } => gate::reading(rt, plan, s, t, demand, window),
-        Command::Write { length } => writing::write(rt, plan, length),
-    }
+// The plan that the lines so far left, and where it is printed what comes of the next.
+#[derive(Drop)]
+pub struct Session<'a, R> {
+    pub rt: &'a R,
+    pub plan: Plan,
 }
 
-// A line, and what comes of it.
-fn turn(rt: &(impl Print + AllocGlobal), plan: &mut Plan, line: &[u8]) -> io::Result<()> {
-    rt.write_all(line)?;
-    print!(rt; " ->")?;
-    match Command::of_line(rt.alloc(), line)? {
-        Some(command) => obey(rt, plan, command)?,
-        None => print!(rt; " no command")?,
+impl<R: Print + AllocGlobal> Session<'_, R> {
+    // Does what a command says, on the plan and to it.
+    fn obey(&mut self, command: Command) -> io::Result<()> {
+        match command {
+            Command::Open { file } => self.open(&file),
+            Command::Longest { length } => self.open_longest(length),
+            Command::Many { low, high, length } => self.open_many(low, high, length),
+            Command::Again => self.open_again(),
+            Command::Change { link, capacity } => self.change(link, capacity),
+            Command::Undo => self.undo(),
+            Command::Repeat { link, capacity } => self.repeat(link, capacity),
+            Command::Drain => self.drain(),
+            Command::Bend {
+                field,
+                place,
+                value,
+            } => self.bend(field, place, value),
+            Command::Tree => self.tree(),
+            Command::Edge => self.edge(),
+            Command::Steps => self.steps(),
+            Command::Network => self.network(),
+            Command::Pair { s, t } => self.pair(s, t),
+            Command::View {
+                link,
+                capacity,
+                s,
+                t,
+            } => self.view(link, capacity, s, t),
+            Command::Headroom { s, t, demand } => self.headroom(s, t, demand),
+            Command::Flow { s, t, length } => self.flow(s, t, length),
+            Command::Gate {
+                s,
+                t,
+                demand,
+                window,
+            } => self.reading(s, t, demand, window),
+            Command::Write { length } => self.write(length),
+        }
     }
-    println!(rt;)
+
+    // A line, and what comes of it.
+    fn turn(&mut self, line: &[u8]) -> io::Result<()> {
+        self.rt.write_all(line)?;
+        print!(self.rt; " ->")?;
+        match Command::of_line(self.rt.alloc(), line)? {
+            Some(command) => self.obey(command)?,
+            None => print!(self.rt; " no command")?,
+        }
+        println!(self.rt;)
+    }
 }
 
 fn main(rt: HostRuntime) -> io::Result<()> {
     let mut input = Vec::new(rt.alloc());
     rt.stdin().take(MAX_INPUT).read_to_end(&mut input)?;
-    let mut plan = plan::no_plan();
+    let mut session = Session {
+        rt: &rt,
+        plan: plan::no_plan(),
+    };
     for line in input.split_inclusive(|byte| *byte == b'\n') {
-        turn(&rt, &mut plan, line.strip_suffix(b"\n").unwrap_or(line))?;
+        session.turn(line.strip_suffix(b"\n").unwrap_or(line))?;
     }
     Ok(())
 }

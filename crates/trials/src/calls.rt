@@ -3,9 +3,9 @@ use crate::headrooms::headroom_right;
 use crate::keeping::Change;
 use crate::lawful::is_lawful;
 use crate::lightest::lightest_right;
-use crate::machine::Machine;
-use crate::pairs::{both_ends_right, found_right};
-use crate::sides::best_of;
+use crate::machine::{Entry, Machine};
+use crate::pairs::Judge;
+use crate::sides::Sides;
 use network::Refusal;
 use plan::{Altered, Plan};
 use std::alloc::{AllocError, Global};
@@ -13,12 +13,11 @@ use std::alloc::{AllocError, Global};
 // What stands in a buffer of flows that is not filled.
 const UNFILLED: i32 = 7;
 
-// Whether a change of link k to capacity d, or an undo that is one, was accepted on this plan: it leaves the capacities
+// Whether a change of a link to a capacity, or an undo that is one, was accepted on this plan: it leaves the capacities
 // and the stack that the machine has then, the new tree's lightest edge, and the keeping rule's count.
 pub fn altered_right(
     p: &Plan,
-    k: usize,
-    d: u32,
+    change: Entry,
     reply: Result<Altered, Refusal>,
     after: &Machine,
 ) -> bool {
@@ -29,7 +28,7 @@ pub fn altered_right(
     left.network == after.network
         && after.has_stack(&left.stack)
         && lightest_right(&left)
-        && Change::of(&p.network, k, d).is_some_and(|change| {
+        && Change::of(&p.network, change.link, change.capacity).is_some_and(|change| {
             change.steps_not_kept(&p.steps, &left.steps, p.network.nodes) == altered.count as usize
         })
 }
@@ -39,7 +38,7 @@ pub fn altered_right(
 pub struct Question<'a> {
     pub plan: &'a Plan,
     pub machine: &'a Machine,
-    pub values: &'a [u32],
+    pub sides: &'a Sides,
     pub s: usize,
     pub t: usize,
 }
@@ -50,7 +49,7 @@ impl Question<'_> {
         let Question {
             plan,
             machine,
-            values,
+            sides,
             s,
             t,
         } = self;
@@ -59,13 +58,12 @@ impl Question<'_> {
         if let Err(refusal) = machine.check_pair(s, t) {
             return here == Err(refusal) && there == Err(refusal);
         }
-        let n = plan.network.nodes;
-        match (here, there) {
-            (Ok(here), Ok(there)) => {
-                both_ends_right(here, there, n) && found_right(here, &plan.tree, n, values, s, t)
-            }
-            _ => false,
-        }
+        let judge = Judge {
+            tree: &plan.tree,
+            nodes: plan.network.nodes,
+            sides,
+        };
+        judge.both_right(here, there, s, t)
     }
 
     // Whether a flow is written rightly to a buffer of this length; refused, the buffer is left.
@@ -73,7 +71,7 @@ impl Question<'_> {
         let Question {
             plan,
             machine,
-            values,
+            sides,
             s,
             t,
         } = self;
@@ -84,13 +82,9 @@ impl Question<'_> {
             reply == outcome
                 && match outcome {
                     Err(_) => out.iter().all(|&x| x == UNFILLED),
-                    Ok(()) => best_of(values, s, t).is_some_and(|best| is_lawful(
-                        &machine.network,
-                        &out,
-                        s,
-                        t,
-                        best.value,
-                    )),
+                    Ok(()) => sides
+                        .best(s, t)
+                        .is_some_and(|best| is_lawful(&machine.network, &out, s, t, best.value)),
                 },
         )
     }
@@ -100,12 +94,12 @@ impl Question<'_> {
         let Question {
             plan,
             machine,
-            values,
+            sides,
             s,
             t,
         } = self;
         let found = plan::headroom(*plan, s, t, demand);
-        let weight = best_of(values, s, t).map_or(0, |best| best.value);
+        let weight = sides.best(s, t).map(|best| best.value);
         Ok(
             found.err() == machine.check_headroom(s, t, demand).err()
                 && headroom_right(alloc, found, weight, demand)?,

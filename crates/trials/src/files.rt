@@ -8,6 +8,8 @@ use std::alloc::{AllocError, Global};
 // What stands in a buffer where nothing is written.
 const UNWRITTEN: u8 = 170;
 
+// Kept: `for rest in successors(Some(number), |rest| (*rest > 127).then_some(*rest / 128))` asks a second time, in its
+// body, whether a group is the last, and has to be shown to end.
 fn push_number(file: &mut Vec<u8>, number: usize) -> Result<(), AllocError> {
     let mut rest = number;
     while rest > 127 {
@@ -19,6 +21,8 @@ fn push_number(file: &mut Vec<u8>, number: usize) -> Result<(), AllocError> {
 }
 
 // The file of a network.
+// Kept: whoever allocates is lent the allocator, beside what it reads: the language has no other way. And this is the
+// library's writing written again, since by it the files are judged.
 pub fn file_of(alloc: Global, net: &Network) -> Result<Vec<u8>, AllocError> {
     let mut file = Vec::new(alloc);
     push_number(&mut file, net.nodes)?;

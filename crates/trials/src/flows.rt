@@ -2,9 +2,8 @@
 ghost use Rattle.max_flow.specs.LeastCut.{Endpoints};
 
 use crate::lawful::is_lawful;
-use crate::random::Random;
-use crate::sides::{best_of, value_at, values_of};
-use crate::tally::{Kind, Tally, repeat};
+use crate::sides::Sides;
+use crate::trial::Trial;
 use network::ValidNetwork;
 use std::alloc::{AllocError, Global};
 
@@ -13,8 +12,7 @@ const LAST_NODE: usize = 9;
 
 const LINKS: usize = 20;
 
-const SEED: usize = 1;
-
+// Kept: whoever allocates is lent the allocator, beside what it reads: the language has no other way.
 fn flow_right(
     alloc: Global,
     net: ValidNetwork,
@@ -32,40 +30,29 @@ fn flow_right(
 fn pair_right(
     alloc: Global,
     net: ValidNetwork,
-    values: &[u32],
+    sides: &Sides,
     s: usize,
     t: usize,
 ) -> Result<bool, AllocError>
     requires { Endpoints net.network s t }
 {
     let cut = max_flow::least_min_cut(net, s, t);
-    let least = best_of(values, s, t).is_some_and(|best| best.value == cut.value
-        && best.side == cut.side);
     Ok(
-        least
-            && value_at(values, cut.side) == Some(cut.value)
+        sides.best(s, t) == Some(cut)
+            && sides.value(cut.side) == Some(cut.value)
             && flow_right(alloc, net, s, t, cut.value)?,
     )
 }
 
-fn try_network(alloc: Global, random: &mut Random, tally: &mut Tally) -> Result<(), AllocError> {
-    let Some(net) = ValidNetwork::new(random.network(LAST_NODE, LINKS)) else {
-        tally.count(Kind::Network, false);
+// All pairs of a random network.
+pub fn try_network(trial: &mut Trial) -> Result<(), AllocError> {
+    let Some(net) = trial.network(LAST_NODE, LINKS)? else {
         return Ok(());
     };
-    tally.count(Kind::Network, true);
-    let values = values_of(alloc, net)?;
-    tally.count_pairs(
+    let alloc = trial.alloc;
+    let sides = Sides::of(alloc, net)?;
+    trial.tally.count_pairs(
         net.network.nodes,
-        |s, t| pair_right(alloc, net, &values, s, t),
-    )
-}
-
-pub fn try_flows(alloc: Global, networks: usize) -> Result<Tally, AllocError> {
-    repeat(
-        alloc,
-        SEED,
-        networks,
-        |random, tally| try_network(alloc, random, tally),
+        |s, t| pair_right(alloc, net, &sides, s, t),
     )
 }

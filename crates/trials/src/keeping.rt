@@ -5,6 +5,7 @@ use network::Network;
 use std::cmp::Ordering;
 
 // A link from a to b whose capacity changes.
+// Kept: this is the library's rule written again, since by it the rule's count is judged.
 #[derive(Clone, Copy)]
 pub struct Change {
     a: usize,

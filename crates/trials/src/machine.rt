@@ -4,11 +4,33 @@ use network::{MAX_CAPACITY, Network, Refusal};
 use plan::{MAX_DEMAND, MAX_DEPTH, Stack};
 use std::alloc::{AllocError, Global};
 
-// A link and the capacity that it had before a change.
+// A link, and the capacity that it goes to, or that it had before a change.
 #[derive(Clone, Copy, Default, PartialEq, Eq)]
 pub struct Entry {
     pub link: usize,
     pub capacity: u32,
+}
+
+// What the table of checks says of two nodes on a plan of n.
+// Kept: s and t stand side by side, as in the calls that are judged; a struct of both would be made for each call and
+// taken apart in each. And this is the library's check written again, since by it the refusals are judged.
+pub fn check_pair(n: usize, s: usize, t: usize) -> Result<(), Refusal> {
+    if s >= n || t >= n {
+        Err(Refusal::NoSuchNode)
+    } else if s == t {
+        Err(Refusal::SameNode)
+    } else {
+        Ok(())
+    }
+}
+
+// The same with a demand.
+pub fn check_headroom(n: usize, s: usize, t: usize, demand: u32) -> Result<(), Refusal> {
+    check_pair(n, s, t)?;
+    if demand > MAX_DEMAND {
+        return Err(Refusal::DemandTooLarge);
+    }
+    Ok(())
 }
 
 // The capacities, in the network that was opened, and the changes that can be undone.
@@ -28,10 +50,10 @@ impl Machine {
 
     // What the table of checks says of each call.
 
-    pub fn check_change(&self, k: usize, c: u32) -> Result<(), Refusal> {
-        if k >= self.network.links {
+    pub fn check_change(&self, change: Entry) -> Result<(), Refusal> {
+        if change.link >= self.network.links {
             Err(Refusal::NoSuchLink)
-        } else if c > MAX_CAPACITY {
+        } else if change.capacity > MAX_CAPACITY {
             Err(Refusal::CapacityTooLarge)
         } else if self.entries.len() == MAX_DEPTH {
             Err(Refusal::StackFull)
@@ -41,18 +63,11 @@ impl Machine {
     }
 
     pub fn check_pair(&self, s: usize, t: usize) -> Result<(), Refusal> {
-        let n = self.network.nodes;
-        if s >= n || t >= n {
-            Err(Refusal::NoSuchNode)
-        } else if s == t {
-            Err(Refusal::SameNode)
-        } else {
-            Ok(())
-        }
+        check_pair(self.network.nodes, s, t)
     }
 
-    pub fn check_preview(&self, k: usize, c: u32, s: usize, t: usize) -> Result<(), Refusal> {
-        self.check_change(k, c)?;
+    pub fn check_preview(&self, change: Entry, s: usize, t: usize) -> Result<(), Refusal> {
+        self.check_change(change)?;
         self.check_pair(s, t)
     }
 
@@ -65,20 +80,17 @@ impl Machine {
     }
 
     pub fn check_headroom(&self, s: usize, t: usize, demand: u32) -> Result<(), Refusal> {
-        self.check_pair(s, t)?;
-        if demand > MAX_DEMAND {
-            return Err(Refusal::DemandTooLarge);
-        }
-        Ok(())
+        check_headroom(self.network.nodes, s, t, demand)
     }
 
     // A change: accepted, the link and its old capacity are pushed and the capacity is set.
-    pub fn change(&mut self, k: usize, c: u32) -> Result<Result<(), Refusal>, AllocError> {
-        let outcome = self.check_change(k, c);
+    pub fn change(&mut self, change: Entry) -> Result<Result<(), Refusal>, AllocError> {
+        let outcome = self.check_change(change);
         if outcome.is_ok() {
-            let capacity = self.network.capacity.get(k).copied().unwrap_or(0);
-            self.entries.push(Entry { link: k, capacity })?;
-            self.network = with_capacity(self.network, k, c);
+            let Entry { link, .. } = change;
+            let capacity = self.network.capacity.get(link).copied().unwrap_or(0);
+            self.entries.push(Entry { link, capacity })?;
+            self.network = with_capacity(self.network, link, change.capacity);
         }
         Ok(outcome)
     }

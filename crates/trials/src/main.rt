@@ -17,20 +17,22 @@ mod random; // random networks
 mod sides; // a trial of every side
 mod tally; // counts
 mod trees; // trees and changes
+mod trial; // what a trial draws from and counts in
 mod windows; // a gate's readings
 
 use crate::tally::print_refusals;
+use crate::trial::repeat;
 use std::io;
 
 fn main(rt: HostRuntime) -> io::Result<()> {
     let alloc = rt.alloc();
-    flows::try_flows(alloc, 1000)?.print(&rt, "flow")?;
-    trees::try_trees(alloc, 300)?.print(&rt, "tree")?;
-    let plans = plans::try_plans(alloc, 100)?;
+    repeat(alloc, 1, 1000, flows::try_network)?.print(&rt, "flow")?;
+    repeat(alloc, 2, 300, trees::try_network)?.print(&rt, "tree")?;
+    let plans = repeat(alloc, 3, 100, plans::try_network)?;
     plans.print(&rt, "plan")?;
     print_refusals(&rt, "refusals", &plans.refusals)?;
     print_refusals(&rt, "refusals of previews", &plans.preview_refusals)?;
-    let windows = windows::try_windows(alloc, 400)?;
+    let windows = repeat(alloc, 4, 400, windows::try_network)?;
     windows.print(&rt, "window")?;
     print_refusals(&rt, "refusals of readings", &windows.refusals)
 }

@@ -5,13 +5,14 @@ ghost use Rattle.network.specs.Limits.{max_links, max_nodes};
 use crate::calls::{Question, altered_right};
 use crate::files::{damaged_right, file_of, file_right};
 use crate::lightest::{least_right, lightest_right};
-use crate::machine::Machine;
+use crate::machine::{Entry, Machine};
 use crate::previews::preview_right;
 use crate::random::Random;
-use crate::sides::values_if_fits;
-use crate::tally::{Kind, Tally, repeat};
-use network::{MAX_CAPACITY, MAX_LINKS, MAX_NODES, Network};
-use plan::{MAX_DEMAND, Plan};
+use crate::sides::Sides;
+use crate::tally::{Kind, Tally};
+use crate::trial::Trial;
+use network::{MAX_CAPACITY, MAX_LINKS, MAX_NODES, Network, Refusal};
+use plan::{Altered, MAX_DEMAND, Plan};
 use std::alloc::{AllocError, Global};
 
 // How many lists of calls a plan gets, and of how many nodes and links the networks are: sometimes of so many that m
@@ -23,8 +24,6 @@ const LAST_NODE: usize = 8;
 const LINKS: usize = 14;
 
 const MANY_LINKS: usize = 140;
-
-const SEED: usize = 3;
 
 // What a list mostly has.
 #[derive(Clone, Copy)]
@@ -98,16 +97,17 @@ fn some_capacity(random: &mut Random, net: &Network, k: usize) -> u32 {
     random.new_capacity(net, k)
 }
 
-// A plan on its way through calls, and the machine beside it.
+// A plan on its way through calls, the machine beside it, and where they are counted.
 #[derive(Drop)]
-struct Run {
+struct Run<'a> {
     alloc: Global,
     random: Random,
+    tally: &'a mut Tally,
     plan: Plan,
     machine: Machine,
 }
 
-impl Run {
+impl Run<'_> {
     // the highest number that is drawn for a link, now and then the one behind the last; and so for a node
     fn last_link(&self) -> usize
         ensures { result ≤ max_links }
@@ -121,53 +121,51 @@ impl Run {
         self.machine.network.nodes.min(MAX_NODES)
     }
 
-    fn try_change(&mut self, tally: &mut Tally, mut random: Random) -> Result<(), AllocError> {
-        let before = self.plan;
-        let k = random.draw(self.last_link());
-        let c = some_capacity(&mut random, &self.machine.network, k);
-        let reply = plan::change(before, k, c);
-        let outcome = self.machine.change(k, c)?;
+    // Judges and counts a change, or an undo, and takes the plan that it leaves. The outcome is what the machine says:
+    // the link and its new capacity, or the refusal.
+    fn note(
+        &mut self,
+        outcome: Result<Entry, Refusal>,
+        reply: Result<Altered, Refusal>,
+    ) -> Result<(), AllocError> {
         let right = match outcome {
-            Ok(()) => altered_right(&before, k, c, reply, &self.machine),
+            Ok(change) => altered_right(&self.plan, change, reply, &self.machine),
             Err(refusal) => reply == Err(refusal),
         };
         if let Ok(altered) = reply {
             self.plan = altered.plan;
         }
-        tally.count_call(Kind::Call, outcome, right)
+        self.tally
+            .count_call(Kind::Call, outcome.map(|_| ()), right)
     }
 
-    fn try_undo(&mut self, tally: &mut Tally) -> Result<(), AllocError> {
-        let before = self.plan;
-        let reply = plan::undo(before);
-        let undone = self.machine.undo();
-        let right = match undone {
-            Ok(top) => altered_right(&before, top.link, top.capacity, reply, &self.machine),
-            Err(refusal) => reply == Err(refusal),
-        };
-        if let Ok(altered) = reply {
-            self.plan = altered.plan;
-        }
-        tally.count_call(Kind::Call, undone.map(|_| ()), right)
+    fn try_change(&mut self, mut random: Random) -> Result<(), AllocError> {
+        let link = random.draw(self.last_link());
+        let capacity = some_capacity(&mut random, &self.machine.network, link);
+        let change = Entry { link, capacity };
+        let outcome = self.machine.change(change)?;
+        let reply = plan::change(self.plan, link, capacity);
+        self.note(outcome.map(|()| change), reply)
+    }
+
+    fn try_undo(&mut self) -> Result<(), AllocError> {
+        let outcome = self.machine.undo();
+        let reply = plan::undo(self.plan);
+        self.note(outcome, reply)
     }
 
     // A pair, flow or headroom call for nodes that may be none or equal, and a look at the lightest edge.
-    fn ask(
-        &mut self,
-        tally: &mut Tally,
-        asked: Asked,
-        mut random: Random,
-    ) -> Result<(), AllocError> {
+    fn ask(&mut self, asked: Asked, mut random: Random) -> Result<(), AllocError> {
         let alloc = self.alloc;
         let n = self.last_node();
         let s = random.draw(n);
         let t = random.draw(n);
-        let values = values_if_fits(alloc, &self.machine.network)?;
+        let sides = Sides::if_fits(alloc, &self.machine.network)?;
         let machine = &self.machine;
         let question = Question {
             plan: &self.plan,
             machine,
-            values: &values,
+            sides: &sides,
             s,
             t,
         };
@@ -188,46 +186,48 @@ impl Run {
                 )
             }
         };
-        let least = least_right(&self.plan, &values);
-        tally.count_call(Kind::Call, outcome, least && right)
+        let least = least_right(&self.plan, &sides);
+        self.tally.count_call(Kind::Call, outcome, least && right)
     }
 
     // A preview of a change that may be refused, for nodes that may be none or equal. Its draws are not those of the
     // calls.
-    fn try_preview(&self, tally: &mut Tally) -> Result<(), AllocError> {
+    fn try_preview(&mut self) -> Result<(), AllocError> {
         let mut random = self.random.apart();
-        let k = random.last(self.last_link());
-        let c = some_capacity(&mut { random }, &self.machine.network, k);
+        let link = random.last(self.last_link());
+        let capacity = some_capacity(&mut { random }, &self.machine.network, link);
+        let change = Entry { link, capacity };
         random.skip(1);
         let mut nodes = random.apart();
         let n = self.last_node();
         let s = nodes.draw(n);
         let t = nodes.draw(n);
-        let right = preview_right(self.alloc, &self.plan, &self.machine, k, c, s, t)?;
-        tally.count_call(Kind::Preview, self.machine.check_preview(k, c, s, t), right)
+        let right = preview_right(self.alloc, &self.plan, &self.machine, change, s, t)?;
+        let outcome = self.machine.check_preview(change, s, t);
+        self.tally.count_call(Kind::Preview, outcome, right)
     }
 
     // A preview, then a call. The next one goes on with draws that this one has made, too.
-    fn one_call(&mut self, tally: &mut Tally, mood: Mood) -> Result<(), AllocError> {
-        self.try_preview(tally)?;
+    fn one_call(&mut self, mood: Mood) -> Result<(), AllocError> {
+        self.try_preview()?;
         let call = Call::drawn(&mut self.random, mood);
         let ahead = self.random;
         self.random.skip(2);
         match call {
-            Call::Ask(asked) => self.ask(tally, asked, ahead),
-            Call::Change => self.try_change(tally, ahead),
-            Call::Undo => self.try_undo(tally),
+            Call::Ask(asked) => self.ask(asked, ahead),
+            Call::Change => self.try_change(ahead),
+            Call::Undo => self.try_undo(),
         }
     }
 
-    fn try_pairs(&self, tally: &mut Tally, values: &[u32]) -> Result<(), AllocError> {
+    fn try_pairs(&mut self, sides: &Sides) -> Result<(), AllocError> {
         let (plan, machine, alloc) = (&self.plan, &self.machine, self.alloc);
         let Network { nodes, links, .. } = machine.network;
-        tally.count_pairs(nodes, |s, t| {
+        self.tally.count_pairs(nodes, |s, t| {
             let question = Question {
                 plan,
                 machine,
-                values,
+                sides,
                 s,
                 t,
             };
@@ -235,56 +235,52 @@ impl Run {
         })
     }
 
-    fn try_list(&mut self, tally: &mut Tally) -> Result<(), AllocError> {
+    fn try_list(&mut self) -> Result<(), AllocError> {
         let mood = Mood::of(self.random);
         for _ in 0..mood.list_length() {
-            self.one_call(tally, mood)?;
+            self.one_call(mood)?;
         }
         let net = &self.machine.network;
-        let values = values_if_fits(self.alloc, net)?;
-        let least = least_right(&self.plan, &values);
-        tally.count(
+        let sides = Sides::if_fits(self.alloc, net)?;
+        let least = least_right(&self.plan, &sides);
+        self.tally.count(
             Kind::List,
             least && file_right(self.alloc, &self.plan, net)?,
-        );
-        self.try_pairs(tally, &values)
+        )?;
+        self.try_pairs(&sides)
     }
 }
 
-fn try_network(alloc: Global, random: &mut Random, tally: &mut Tally) -> Result<(), AllocError> {
+// A plan that is opened from the file of a random network, and its lists of calls.
+pub fn try_network(trial: &mut Trial) -> Result<(), AllocError> {
+    let Trial {
+        alloc,
+        random,
+        tally,
+    } = trial;
     let most = if random.last(9) == 0 {
         MANY_LINKS
     } else {
         LINKS
     };
     let network = random.network(LAST_NODE, most);
-    let file = file_of(alloc, &network)?;
+    let file = file_of(*alloc, &network)?;
     let Ok(plan) = plan::open(&file) else {
-        tally.count(Kind::Network, false);
-        return Ok(());
+        return tally.count(Kind::Network, false);
     };
-    let values = values_if_fits(alloc, &network)?;
+    let sides = Sides::if_fits(*alloc, &network)?;
     let opened = plan.network == network && plan.stack.depth == 0;
-    let least = lightest_right(&plan) && least_right(&plan, &values);
-    tally.count(Kind::Network, opened && least && damaged_right(file)?);
-    let machine = Machine::started(alloc, network);
+    let least = lightest_right(&plan) && least_right(&plan, &sides);
+    tally.count(Kind::Network, opened && least && damaged_right(file)?)?;
     let mut run = Run {
-        alloc,
+        alloc: *alloc,
         random: random.apart(),
+        tally,
         plan,
-        machine,
+        machine: Machine::started(*alloc, network),
     };
     for _ in 0..LISTS {
-        run.try_list(tally)?;
+        run.try_list()?;
     }
     Ok(())
-}
-
-pub fn try_plans(alloc: Global, networks: usize) -> Result<Tally, AllocError> {
-    repeat(
-        alloc,
-        SEED,
-        networks,
-        |random, tally| try_network(alloc, random, tally),
-    )
 }

@@ -1,8 +1,8 @@
 // Previews, judged by the machine, by a change that is made on a copy, and by a trial of every side.
 use crate::calls::altered_right;
-use crate::machine::Machine;
-use crate::pairs::found_right;
-use crate::sides::values_if_fits;
+use crate::machine::{Entry, Machine};
+use crate::pairs::Judge;
+use crate::sides::Sides;
 use plan::Plan;
 use std::alloc::{AllocError, Global};
 
@@ -13,25 +13,29 @@ pub fn preview_right(
     alloc: Global,
     p: &Plan,
     machine: &Machine,
-    k: usize,
-    c: u32,
+    change: Entry,
     s: usize,
     t: usize,
 ) -> Result<bool, AllocError> {
-    let reply = plan::preview(*p, k, c, s, t);
-    if let Err(refusal) = machine.check_preview(k, c, s, t) {
+    let Entry { link, capacity } = change;
+    let reply = plan::preview(*p, link, capacity, s, t);
+    if let Err(refusal) = machine.check_preview(change, s, t) {
         return Ok(reply == Err(refusal));
     }
     let mut after = machine.clone()?;
-    let _ = after.change(k, c)?;
-    let copy = plan::change(*p, k, c);
-    let n = after.network.nodes;
-    let values = values_if_fits(alloc, &after.network)?;
+    let _ = after.change(change)?;
+    let copy = plan::change(*p, link, capacity);
+    let sides = Sides::if_fits(alloc, &after.network)?;
     Ok(match (reply, copy) {
         (Ok(found), Ok(altered)) => {
-            altered_right(p, k, c, copy, &after)
+            let judge = Judge {
+                tree: &altered.plan.tree,
+                nodes: after.network.nodes,
+                sides: &sides,
+            };
+            altered_right(p, change, copy, &after)
                 && found.count == altered.count
-                && found_right(found.pair, &altered.plan.tree, n, &values, s, t)
+                && judge.found_right(found.pair, s, t)
         }
         _ => false,
     })

@@ -1,5 +1,6 @@
 // A trial of every side. It shares nothing with the code that it judges but the value of a cut, whose contract is its
 // definition.
+use max_flow::Cut;
 use network::{MAX_NODES, Network, ValidNetwork};
 use std::alloc::{AllocError, Global};
 use std::cmp::Ordering;
@@ -7,71 +8,71 @@ use std::cmp::Ordering;
 // Sides of networks of more nodes are not tried.
 const MOST_NODES: usize = 10;
 
+// Kept: this is `node_set::contains` written again, since by it the answers are judged.
 pub fn holds(side: u64, i: usize) -> bool {
     i < MAX_NODES && (side >> i) % 2 == 1
 }
 
+// The one of smaller value; of the same value, the nodes that both share.
+fn best_of(one: Cut, other: Cut) -> Cut {
+    match other.value.cmp(&one.value) {
+        Ordering::Less => other,
+        Ordering::Equal => Cut {
+            side: one.side & other.side,
+            ..one
+        },
+        Ordering::Greater => one,
+    }
+}
+
 // The value of every side: side x is the number x.
-pub fn values_of(alloc: Global, net: ValidNetwork) -> Result<Vec<u32>, AllocError> {
-    let n = net.network.nodes;
-    let sides = if n > MOST_NODES { 0 } else { 1u64 << n };
-    (0..sides)
-        .map(|side| network::cut_value(net, side))
-        .collect(alloc)
+#[derive(Drop)]
+pub struct Sides {
+    values: Vec<u32>,
 }
 
-// The same of any record; none where it is no network within the limits.
-pub fn values_if_fits(alloc: Global, net: &Network) -> Result<Vec<u32>, AllocError> {
-    match ValidNetwork::new(*net) {
-        Some(valid) => values_of(alloc, valid),
-        None => Ok(Vec::new(alloc)),
+impl Sides {
+    // Kept: whoever allocates is lent the allocator, beside what it reads: the language has no other way.
+    pub fn of(alloc: Global, net: ValidNetwork) -> Result<Sides, AllocError> {
+        let n = net.network.nodes;
+        let sides = if n > MOST_NODES { 0 } else { 1u64 << n };
+        let values = (0..sides).map(|side| network::cut_value(net, side));
+        Ok(Sides {
+            values: values.collect(alloc)?,
+        })
     }
-}
 
-pub fn value_at(values: &[u32], side: u64) -> Option<u32> {
-    values.get(side as usize).copied()
-}
-
-// The smallest value, and the nodes that all sides of that value share.
-#[derive(Clone, Copy)]
-pub struct Best {
-    pub value: u32,
-    pub side: u64,
-}
-
-impl Best {
-    // The same with one side more.
-    fn or(self, side: u64, value: u32) -> Best {
-        match value.cmp(&self.value) {
-            Ordering::Less => Best { value, side },
-            Ordering::Equal => Best {
-                side: self.side & side,
-                ..self
-            },
-            Ordering::Greater => self,
+    // The same of any record; none where it is no network within the limits.
+    pub fn if_fits(alloc: Global, net: &Network) -> Result<Sides, AllocError> {
+        match ValidNetwork::new(*net) {
+            Some(valid) => Sides::of(alloc, valid),
+            None => Ok(Sides {
+                values: Vec::new(alloc),
+            }),
         }
     }
-}
 
-// The smallest value of all sides that hold s and not t, and what all sides of that value share.
-pub fn best_of(values: &[u32], s: usize, t: usize) -> Option<Best> {
-    let mut best: Option<Best> = None;
-    for (x, &value) in values.iter().enumerate() {
-        let side = x as u64;
-        if holds(side, s) && !holds(side, t) {
-            best = Some(match best {
-                Some(so_far) => so_far.or(side, value),
-                None => Best { value, side },
-            });
-        }
+    pub fn value(&self, side: u64) -> Option<u32> {
+        self.values.get(side as usize).copied()
     }
-    best
-}
 
-// The smallest value of all sides that are neither empty nor all nodes: the first one and the last one.
-pub fn least_of_all(values: &[u32]) -> Option<u32> {
-    match values {
-        [_, proper @ .., _] => proper.iter().copied().min(),
-        _ => None,
+    // The smallest value of all sides that hold s and not t, and what all sides of that value share.
+    pub fn best(&self, s: usize, t: usize) -> Option<Cut> {
+        let sides = self.values.iter().enumerate();
+        sides
+            .map(|(x, &value)| Cut {
+                side: x as u64,
+                value,
+            })
+            .filter(|one| holds(one.side, s) && !holds(one.side, t))
+            .reduce(best_of)
+    }
+
+    // The smallest value of all sides that are neither empty nor all nodes: the first one and the last one.
+    pub fn least(&self) -> Option<u32> {
+        match self.values.as_slice() {
+            [_, proper @ .., _] => proper.iter().copied().min(),
+            _ => None,
+        }
     }
 }

@@ -1,14 +1,13 @@
 // What was compared, and how often it disagreed.
 ghost use Rattle.std.specs.Prelude.{ℕ, ◌<◌, ◌≢◌};
 
-use crate::random::Random;
 use network::Refusal;
 use std::alloc::{AllocError, Global};
-use std::collections::BTreeSet;
+use std::collections::{BTreeMap, BTreeSet};
 use std::{fmt, io};
 
-// What is compared.
-#[derive(Clone, Copy)]
+// What is compared, in the order that it is printed in.
+#[derive(Clone, Copy, PartialEq, Eq, PartialOrd, Ord)]
 pub enum Kind {
     Network,
     Change,
@@ -32,19 +31,6 @@ impl Kind {
     }
 }
 
-// All kinds, in their order.
-const KINDS: [Kind; 9] = [
-    Kind::Network,
-    Kind::Change,
-    Kind::List,
-    Kind::Call,
-    Kind::Preview,
-    Kind::RefusedPreview,
-    Kind::Reading,
-    Kind::RefusedReading,
-    Kind::Pair,
-];
-
 // As many of them are called.
 impl fmt::Display for Kind {
     fn fmt<W: fmt::Write>(&self, f: &mut fmt::Formatter<W>) -> fmt::Result {
@@ -65,29 +51,30 @@ impl fmt::Display for Kind {
 // How many of each kind were compared, and how many disagreed. The counts stay far below 2^64.
 #[derive(Drop)]
 pub struct Tally {
-    counts: [u64; KINDS.len()],
+    counts: BTreeMap<Kind, u64>,
     wrong: u64,
-    // the refusals that came, by their numbers, and the same of previews
-    pub refusals: BTreeSet<u32>,
-    pub preview_refusals: BTreeSet<u32>,
+    // the refusals that came, and those of previews
+    pub refusals: BTreeSet<Refusal>,
+    pub preview_refusals: BTreeSet<Refusal>,
 }
 
 impl Tally {
-    fn new(alloc: Global) -> Tally {
+    pub fn new(alloc: Global) -> Tally {
         Tally {
-            counts: [0; KINDS.len()],
+            counts: BTreeMap::new(alloc),
             wrong: 0,
             refusals: BTreeSet::new(alloc),
             preview_refusals: BTreeSet::new(alloc),
         }
     }
 
-    pub fn count(&mut self, kind: Kind, right: bool) {
-        let place = kind as usize;
-        self.counts[place] = self.counts[place].saturating_add(1);
+    pub fn count(&mut self, kind: Kind, right: bool) -> Result<(), AllocError> {
+        let times = self.counts.entry(kind)?.or_insert(0);
+        *times = times.saturating_add(1);
         if !right {
             self.wrong = self.wrong.saturating_add(1);
         }
+        Ok(())
     }
 
     // Counts a call, and notes its refusal, if it was refused. Previews have a set of their own.
@@ -98,15 +85,14 @@ impl Tally {
         right: bool,
     ) -> Result<(), AllocError> {
         let Err(refusal) = outcome else {
-            self.count(kind, right);
-            return Ok(());
+            return self.count(kind, right);
         };
-        self.count(kind.refused(), right);
+        self.count(kind.refused(), right)?;
         let refusals = match kind {
             Kind::Preview => &mut self.preview_refusals,
             _ => &mut self.refusals,
         };
-        refusals.insert(refusal.number())?;
+        refusals.insert(refusal)?;
         Ok(())
     }
 
@@ -121,7 +107,7 @@ impl Tally {
         for s in 0..n {
             for t in 0..n {
                 if s != t {
-                    self.count(Kind::Pair, judge(s, t)?);
+                    self.count(Kind::Pair, judge(s, t)?)?;
                 }
             }
         }
@@ -131,38 +117,22 @@ impl Tally {
     // " 12 things" of each kind that there is, and the disagreements
     pub fn print(&self, rt: &impl Print, name: &str) -> io::Result<()> {
         print!(rt; "{name}")?;
-        for (kind, &count) in KINDS.iter().zip(&self.counts) {
-            if count != 0 {
-                print!(rt; " {count} {kind}")?;
-            }
+        for (kind, count) in &self.counts {
+            print!(rt; " {count} {kind}")?;
         }
         println!(rt; " {} disagreements", self.wrong)
     }
 }
 
 // Words, and the numbers of the refusals that came.
-pub fn print_refusals(rt: &impl Print, words: &str, refusals: &BTreeSet<u32>) -> io::Result<()> {
+pub fn print_refusals(
+    rt: &impl Print,
+    words: &str,
+    refusals: &BTreeSet<Refusal>,
+) -> io::Result<()> {
     print!(rt; "{words}")?;
-    for number in refusals {
-        print!(rt; " {number}")?;
+    for refusal in refusals {
+        print!(rt; " {refusal}")?;
     }
     println!(rt)
-}
-
-// Makes a trial so many times, with a generator that begins at a seed.
-// Kept: a trial takes the generator and the tally as two, since it draws from the one while it counts in the other.
-pub fn repeat<F: Fn(&mut Random, &mut Tally) -> Result<(), AllocError>>(
-    alloc: Global,
-    seed: usize,
-    times: usize,
-    trial: F,
-) -> Result<Tally, AllocError>
-    requires { F.IsAlwaysCallable trial }
-{
-    let mut random = Random::new(seed);
-    let mut tally = Tally::new(alloc);
-    for _ in 0..times {
-        trial(&mut random, &mut tally)?;
-    }
-    Ok(tally)
 }

@@ -3,11 +3,12 @@ ghost use Rattle.cut_tree.specs.Path.{Climbs};
 ghost use Rattle.cut_tree.specs.code.RebuildParts.{Changes};
 
 use crate::keeping::{Change, with_capacity};
-use crate::pairs::{both_ends_right, found_right};
+use crate::pairs::Judge;
 use crate::random::Random;
-use crate::sides::values_of;
-use crate::tally::{Kind, Tally, repeat};
-use cut_tree::{Steps, Tree};
+use crate::sides::Sides;
+use crate::tally::{Kind, Tally};
+use crate::trial::Trial;
+use cut_tree::Steps;
 use network::{MAX_CAPACITY, ValidNetwork};
 use std::alloc::{AllocError, Global};
 
@@ -18,47 +19,35 @@ const LAST_NODE: usize = 8;
 
 const LINKS: usize = 16;
 
-const SEED: usize = 2;
-
-// Kept: the tree and the values have two owners, and a struct of both would be made for this call alone.
-fn pair_right(tree: &Tree, n: usize, values: &[u32], s: usize, t: usize) -> bool
-    requires { Climbs n tree.now.parent }
+fn pair_right(judge: Judge, s: usize, t: usize) -> bool
+    requires { Climbs judge.nodes judge.tree.now.parent }
 {
-    match (
-        cut_tree::query(*tree, n, s, t),
-        cut_tree::query(*tree, n, t, s),
-    ) {
-        (Ok(here), Ok(there)) => {
-            both_ends_right(here, there, n) && found_right(here, tree, n, values, s, t)
-        }
-        _ => false,
-    }
+    let Judge { tree, nodes, .. } = judge;
+    let here = cut_tree::query(*tree, nodes, s, t);
+    let there = cut_tree::query(*tree, nodes, t, s);
+    judge.both_right(here, there, s, t)
 }
 
-fn try_pairs(tally: &mut Tally, tree: &Tree, n: usize, values: &[u32]) -> Result<(), AllocError>
-    requires { Climbs n tree.now.parent }
+fn try_pairs(tally: &mut Tally, judge: Judge) -> Result<(), AllocError>
+    requires { Climbs judge.nodes judge.tree.now.parent }
 {
-    tally.count_pairs(n, |s, t| Ok(pair_right(tree, n, values, s, t)))
+    tally.count_pairs(judge.nodes, |s, t| Ok(pair_right(judge, s, t)))
 }
 
-// A network on its way through changes, with the steps of its tree.
-#[derive(Clone, Copy)]
-struct Walk {
+// A network on its way through changes, with the steps of its tree, and where they are counted.
+#[derive(Drop)]
+struct Walk<'a> {
+    alloc: Global,
+    random: Random,
+    tally: &'a mut Tally,
     network: ValidNetwork,
     steps: Steps,
 }
 
-impl Walk {
+impl Walk<'_> {
     // Link k goes to capacity d, which makes the network `changed`: whether a rebuild is what a fresh build is, and its
     // count the keeping rule's; and all pairs of the fresh tree.
-    fn compare(
-        &mut self,
-        alloc: Global,
-        tally: &mut Tally,
-        changed: ValidNetwork,
-        k: usize,
-        d: u32,
-    ) -> Result<(), AllocError>
+    fn compare(&mut self, changed: ValidNetwork, k: usize, d: u32) -> Result<(), AllocError>
         requires { Changes self.old.network.network k d }
     {
         let n = changed.network.nodes;
@@ -72,60 +61,49 @@ impl Walk {
         let right = rebuilt.tree == fresh.tree
             && rebuilt.steps == fresh.steps
             && counted == Some(rebuilt.count as usize);
-        tally.count(Kind::Change, right);
-        try_pairs(tally, &fresh.tree, n, &values_of(alloc, changed)?)?;
+        self.tally.count(Kind::Change, right)?;
+        let judge = Judge {
+            tree: &fresh.tree,
+            nodes: n,
+            sides: &Sides::of(self.alloc, changed)?,
+        };
+        try_pairs(self.tally, judge)?;
         self.network = changed;
         self.steps = rebuilt.steps;
         Ok(())
     }
 
     // One change of a random link, where there is a link.
-    fn change_once(
-        &mut self,
-        alloc: Global,
-        tally: &mut Tally,
-        random: &mut Random,
-    ) -> Result<(), AllocError> {
+    fn change_once(&mut self) -> Result<(), AllocError> {
         let net = self.network.network;
         if net.links == 0 {
             return Ok(());
         }
-        let k = random.draw(net.links - 1);
-        let mut ahead = *random;
-        random.skip(2);
+        let k = self.random.draw(net.links - 1);
+        let mut ahead = self.random;
+        self.random.skip(2);
         let d = ahead.new_capacity(&net, k);
         match ValidNetwork::new(with_capacity(net, k, d)) {
-            Some(changed) if d <= MAX_CAPACITY => self.compare(alloc, tally, changed, k, d),
-            _ => {
-                tally.count(Kind::Change, false);
-                Ok(())
-            }
+            Some(changed) if d <= MAX_CAPACITY => self.compare(changed, k, d),
+            _ => self.tally.count(Kind::Change, false),
         }
     }
 }
 
-fn try_network(alloc: Global, random: &mut Random, tally: &mut Tally) -> Result<(), AllocError> {
-    let Some(network) = ValidNetwork::new(random.network(LAST_NODE, LINKS)) else {
-        tally.count(Kind::Network, false);
+// A random network, and its changes.
+pub fn try_network(trial: &mut Trial) -> Result<(), AllocError> {
+    let Some(network) = trial.network(LAST_NODE, LINKS)? else {
         return Ok(());
     };
-    tally.count(Kind::Network, true);
-    let mut apart = random.apart();
     let mut walk = Walk {
+        alloc: trial.alloc,
+        random: trial.random.apart(),
+        tally: &mut trial.tally,
         network,
         steps: cut_tree::build(network).steps,
     };
     for _ in 0..CHANGES {
-        walk.change_once(alloc, tally, &mut apart)?;
+        walk.change_once()?;
     }
     Ok(())
-}
-
-pub fn try_trees(alloc: Global, networks: usize) -> Result<Tally, AllocError> {
-    repeat(
-        alloc,
-        SEED,
-        networks,
-        |random, tally| try_network(alloc, random, tally),
-    )
 }

@@ -1,9 +1,12 @@
 // A gate's record through random lists of resets and readings on random plans (docs/SCOPE.md, 6), written again: the
 // headrooms since the last reset are kept in order, and limits come from a trial of every side.
 use crate::files::{cut, file_of};
+use crate::headrooms::tenths;
+use crate::machine::check_headroom;
 use crate::random::Random;
-use crate::sides::{best_of, values_if_fits};
-use crate::tally::{Kind, Tally, repeat};
+use crate::sides::Sides;
+use crate::tally::{Kind, Tally};
+use crate::trial::Trial;
 use gate_window::{Noted, Window, WindowReply};
 use network::{MAX_NODES, Refusal};
 use plan::{MAX_DEMAND, Plan};
@@ -16,10 +19,8 @@ const LAST_NODE: usize = 8;
 
 const LINKS: usize = 14;
 
-const SEED: usize = 4;
-
-// The headrooms that a demand may leave, in tenths and 110 more: near -10.0, 0, 10.0 or 100.0, or between.
-const HEADROOMS: [u32; 7] = [8, 10, 60, 108, 208, 600, 1108];
+// The headrooms that a demand may leave, in tenths: near -10.0, 0, 10.0 or 100.0, or between.
+const HEADROOMS: [i64; 7] = [-102, -100, -50, -2, 98, 490, 998];
 
 // A reading for s and t, whose limit is `weight`.
 #[derive(Clone, Copy)]
@@ -32,11 +33,11 @@ struct Reading {
 
 impl Reading {
     // A reading for nodes of n that may be none or equal.
-    fn drawn(random: &mut Random, n: usize, values: &[u32]) -> Reading {
+    fn drawn(random: &mut Random, n: usize, sides: &Sides) -> Reading {
         let last = n.min(MAX_NODES);
         let s = random.draw(last);
         let t = random.draw(last);
-        let weight = best_of(values, s, t).map(|best| best.value);
+        let weight = sides.best(s, t).map(|best| best.value);
         Reading {
             s,
             t,
@@ -49,18 +50,13 @@ impl Reading {
     // no sound one.
     fn check(self, n: usize, has_room: bool) -> Result<(), Refusal> {
         if n == 0 {
-            Err(Refusal::NotSound)
-        } else if self.s >= n || self.t >= n {
-            Err(Refusal::NoSuchNode)
-        } else if self.s == self.t {
-            Err(Refusal::SameNode)
-        } else if self.demand > 1_000_000_000 {
-            Err(Refusal::DemandTooLarge)
-        } else if !has_room {
-            Err(Refusal::TooManyReadings)
-        } else {
-            Ok(())
+            return Err(Refusal::NotSound);
         }
+        check_headroom(n, self.s, self.t, self.demand)?;
+        if !has_room {
+            return Err(Refusal::TooManyReadings);
+        }
+        Ok(())
     }
 
     // The weight less the demand.
@@ -75,10 +71,9 @@ fn some_demand(random: &mut Random, weight: u32) -> u32 {
     if random.draw(10) == 0 {
         return MAX_DEMAND + random.draw(1) as u32;
     }
-    let more = random.last(3) as u32;
+    let more = random.last(3) as i64;
     let headroom = HEADROOMS[random.draw(6)] + more;
-    let limit = weight.saturating_add(110);
-    limit.checked_sub(headroom).unwrap_or(MAX_DEMAND + 1)
+    u32::try_from(weight as i64 - headroom).unwrap_or(MAX_DEMAND + 1)
 }
 
 // The record as it started, and the headrooms of the readings accepted since then, in order.
@@ -125,37 +120,28 @@ impl Kept {
     }
 }
 
-fn digit(x: u32) -> u8 {
-    b'0' + (x % 10) as u8
-}
-
 // What a window shows of a headroom.
-// Kept: an arm for each shape; `format!` gives a string, which would have to be copied into the four bytes.
-fn text_of(headroom: i32) -> [u8; 4] {
-    let size = headroom.unsigned_abs();
-    let tenth = digit(size);
-    let whole = digit(size / 10);
+fn shown(alloc: Global, headroom: i32) -> Result<String, AllocError> {
     match headroom {
-        ..-99 => *b"LOW ",
-        -99..0 => [b'-', whole, b'.', tenth],
-        0..100 => [b' ', whole, b'.', tenth],
-        100..1000 => [digit(size / 100), whole, b'.', tenth],
-        1000.. => *b"HIGH",
+        ..-99 => format!(in alloc; "LOW "),
+        -99..1000 => format!(in alloc; "{:>4}", tenths(alloc, headroom as i64)?),
+        1000.. => format!(in alloc; "HIGH"),
     }
 }
 
-// A record on its way through a list.
+// A record on its way through a list, and where its readings are counted.
 #[derive(Drop)]
-struct Run {
+struct Run<'a> {
     alloc: Global,
     random: Random,
+    tally: &'a mut Tally,
     window: Window,
     kept: Kept,
 }
 
-impl Run {
+impl<'a> Run<'a> {
     // A record that no reset made, with no readings or about as many as it takes.
-    fn started(alloc: Global, mut random: Random) -> Run {
+    fn started(alloc: Global, mut random: Random, tally: &'a mut Tally) -> Run<'a> {
         let headroom = random.draw(400) as i32 - 200;
         let count = if random.draw(2) == 0 {
             let mut ahead = random;
@@ -171,39 +157,39 @@ impl Run {
         Run {
             alloc,
             random,
+            tally,
             window,
             kept: Kept::new(alloc, window),
         }
     }
 
     // Whether a reading gives the reply and leaves the record that it has to, by itself and on a copy.
-    fn try_reading(&mut self, tally: &mut Tally, p: &Plan, r: Reading) -> Result<(), AllocError> {
+    fn try_reading(&mut self, p: &Plan, r: Reading) -> Result<(), AllocError> {
         let Reading { s, t, demand, .. } = r;
         let before = self.window;
         let outcome = r.check(p.network.nodes, self.kept.count() < 1_000_000);
-        let mut expected = WindowReply {
-            number: 0,
-            text: *b"    ",
-        };
-        match outcome {
+        let (expected, text) = match outcome {
             Ok(()) => {
                 let headroom = r.headroom().unwrap_or(0);
                 self.kept.headrooms.push(headroom)?;
-                expected.text = text_of(headroom);
+                (0, shown(self.alloc, headroom)?)
             }
-            Err(refusal) => expected.number = refusal.number(),
-        }
+            Err(refusal) => (refusal.number(), format!(in self.alloc; "    ")?),
+        };
         let reply = gate_window::reading(&mut self.window, *p, s, t, demand);
         let window = self.window;
         let noted = gate_window::after_reading(*p, before, s, t, demand);
-        let right = WindowReply::from(reply) == expected
+        // Kept: a number is compared, since the `From` that makes C's reply is tried here too.
+        let got = WindowReply::from(reply);
+        let right = got.number == expected
+            && got.text.as_slice() == text.as_bytes()
             && window == self.kept.window()
             && noted == reply.map(|text| Noted { window, text });
-        tally.count_call(Kind::Reading, outcome, right)
+        self.tally.count_call(Kind::Reading, outcome, right)
     }
 
     // A reset, or mostly a reading. A reset leaves out the draws of a reading.
-    fn one_step(&mut self, tally: &mut Tally, p: &Plan, values: &[u32]) -> Result<(), AllocError> {
+    fn one_step(&mut self, p: &Plan, sides: &Sides) -> Result<(), AllocError> {
         if self.random.draw(12) == 0 {
             self.random.skip(4);
             gate_window::reset(&mut self.window);
@@ -217,37 +203,33 @@ impl Run {
             );
             return Ok(());
         }
-        let reading = Reading::drawn(&mut self.random, p.network.nodes, values);
-        self.try_reading(tally, p, reading)
+        let reading = Reading::drawn(&mut self.random, p.network.nodes, sides);
+        self.try_reading(p, reading)
     }
 }
 
 // A list on the plan of a file, or sometimes on that beside the refusal of the file without its last byte.
-fn try_network(alloc: Global, random: &mut Random, tally: &mut Tally) -> Result<(), AllocError> {
+pub fn try_network(trial: &mut Trial) -> Result<(), AllocError> {
+    let Trial {
+        alloc,
+        random,
+        tally,
+    } = trial;
     let net = random.network(LAST_NODE, LINKS);
     let mut apart = random.apart();
-    let file = file_of(alloc, &net)?;
-    let values = values_if_fits(alloc, &net)?;
+    let file = file_of(*alloc, &net)?;
+    let sides = Sides::if_fits(*alloc, &net)?;
     let is_cut = apart.last(9) == 9;
     let opened = plan::open(if is_cut { cut(&file) } else { &file });
     let expected = is_cut.then_some(Refusal::EndsEarly);
     tally.count(
         Kind::List,
         opened.err().map(|fault| fault.refusal) == expected,
-    );
+    )?;
     let p = opened.unwrap_or(plan::no_plan());
-    let mut run = Run::started(alloc, apart);
+    let mut run = Run::started(*alloc, apart, tally);
     for _ in 0..LIST {
-        run.one_step(tally, &p, &values)?;
+        run.one_step(&p, &sides)?;
     }
     Ok(())
-}
-
-pub fn try_windows(alloc: Global, lists: usize) -> Result<Tally, AllocError> {
-    repeat(
-        alloc,
-        SEED,
-        lists,
-        |random, tally| try_network(alloc, random, tally),
-    )
 }

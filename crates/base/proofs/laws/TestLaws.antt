@@ -1,9 +1,8 @@
 -- Tests over all places, and lists of tests.
-use Rattle.std.specs.Prelude.{◌≡◌, refl, Bool, true, false, not, ℕ, zero, suc, ◌+◌, ◌<◌, List, [], ◌∷◌, eqb}
+use Rattle.std.specs.Prelude.{◌≡◌, refl, Bool, true, false, ℕ, zero, suc, ◌+◌, ◌<◌, List, [], ◌∷◌, eqb}
 use Rattle.std.proofs.Common.{sym, ◌∙◌, true≢false, arith, add-one, ne_eqb}
 use Rattle.std.proofs.Math.Bool.{and-true}
 use Rattle.std.proofs.Math.Decide.{ℕ_discrete}
-use Rattle.std.proofs.lemmas.Bool.{not-true, not-false}
 use Rattle.base.specs.Basics.{all, every}
 use Rattle.base.proofs.laws.Bools.{and_l, and_r, both}
 
@@ -74,13 +73,6 @@ unfolding every
 settled (fail e) = rw e
 settled (pass e s) = rw e (settled s)
 settled (last {x} e) = e ∙ sym (and-true x)
-
--- a test that a function answered with r
-pub answered_no : {r x : Bool} → r ≡ x → not r ≡ true → x ≡ false
-answered_no e n = sym e ∙ not-true _ n
-
-pub answered_yes : {r x : Bool} → r ≡ x → not r ≡ false → x ≡ true
-answered_yes e n = sym e ∙ not-false _ n
 
 -- ---- a test of two numbers, turned
 pub eqb_turned : (x y : ℕ) → eqb x y ≡ eqb y x

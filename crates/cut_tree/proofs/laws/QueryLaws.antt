@@ -1,5 +1,5 @@
 -- Laws of the pair query: the edge found by two climbs is the lightest on the tree path, the lowest number among equals.
-use Rattle.std.specs.Prelude.{ℕ, zero, suc, ◌≤◌, ◌<◌, ◌≡◌, refl, Bool, true, false, not, ◌&&◌, ◌||◌, List, [], ◌∷◌}
+use Rattle.std.specs.Prelude.{ℕ, zero, suc, ◌≤◌, ◌<◌, ◌≡◌, ◌≢◌, refl, Bool, true, false, not, ◌&&◌, ◌||◌, List, [], ◌∷◌}
 use Rattle.std.specs.Prelude.{Option, None, Some, min, ltb, eqb}
 use Rattle.std.proofs.Common.{sym, ap, ◌∙◌, true≢false, arith, eq-eqb, ne_eqb, lt-ltb, le-ltb}
 use Rattle.std.proofs.Math.Bool.{or-false}
@@ -12,11 +12,11 @@ use Rattle.node_set.specs.Set.{empty, added, Counted}
 use Rattle.node_set.proofs.theorems.Members.{holds_empty, holds_added}
 use Rattle.base.specs.Basics.{pick, at, differ, among}
 use Rattle.network.specs.Limits.{max_nodes}
-use Rattle.cut_tree.specs.Path.{max_climb, reaches, climb, under, on_path, lightest_on, side_of, answer}
+use Rattle.cut_tree.specs.Path.{max_climb, reaches, Climbs, climb, under, on_path, lightest_on, side_of, answer}
 use Rattle.cut_tree.specs.Path.{query_number, query_of}
 use Rattle.cut_tree.proofs.laws.MemberLaws.{among_head, among_later, among_on}
-use Rattle.cut_tree.specs.code.QueryParts.{Inside, IsNode, Pair, climb_to, added_all, lighter, lightest_from}
-use Rattle.cut_tree.proofs.laws.ClimbLaws.{inside_lt, inside_next, climb_nonzero, climb_closed, climb_to_among}
+use Rattle.cut_tree.specs.code.QueryParts.{IsNode, climb_to, added_all, lighter, lightest_from}
+use Rattle.cut_tree.proofs.laws.ClimbLaws.{rooted_lt, rooted_next, climb_nonzero, climb_closed, climb_to_among}
 use Rattle.cut_tree.proofs.laws.ClimbLaws.{climb_end, climb_none, climb_on, climb_to_end, climb_to_none, climb_to_stop, climb_to_on}
 use Rattle.cut_tree.specs.Answer.{BothEnds}
 use Rattle.cut_tree.proofs.laws.PathLaws.{lowest_lightest}
@@ -78,7 +78,7 @@ pub added_on : (x i y r : ℕ) (xs ys : List ℕ) → xs ≡ i ∷ ys → y ≡ 
 unfolding added_all
 added_on x i y r xs ys e f g = rw (g, f, e)
 
-pub ruleset gathering = (climb_end, climb_none, climb_on, added_none, added_on)
+pub ruleset gathering = (climb_end, climb_none, climb_on, added_none, added_on, rooted_lt, rooted_next)
 
 holds_added_all : (x : ℕ) (xs : List ℕ) (v : ℕ) → holds (added_all x xs) v ≡ (holds x v || among v xs)
 unfolding added_all among
@@ -86,7 +86,7 @@ holds_added_all x [] v = sym (or-false (holds x v))
 holds_added_all x (i ∷ is) v = holds_added_all (added x i) is v ∙ rw (holds_added x i v) (or_pick (holds x v) (eqb v i) (among v is))
 
 -- ---- the two climbs, one after the other
-module _ (tree : Tree) (s t : ℕ) (h : Pair tree.parent s t) where
+module _ (n : ℕ) (tree : Tree) (h : Climbs n tree.parent) (s t : ℕ) (sl : s < n) (tl : t < n) (apart : s ≢ t) where
   abbrev ps : List ℕ
   ps = tree.parent
 
@@ -111,10 +111,10 @@ module _ (tree : Tree) (s t : ℕ) (h : Pair tree.parent s t) where
     up u = among u (climb_to y ps max_climb s)
 
     on_s : (u : ℕ) → up u ≡ (under ps u s && not (under ps u t))
-    on_s = stops s t f y (h.climbs.rooted t h.to) g ey
+    on_s = stops s t f y (h.rooted t tl) g ey
 
     on_t : (u : ℕ) → among u (climb_to x ps max_climb t) ≡ (under ps u t && not (under ps u s))
-    on_t = stops t s z x (h.climbs.rooted s h.from) d ex
+    on_t = stops t s z x (h.rooted s sl) d ex
 
     both_ways : (u : ℕ) → (up u || among u (climb_to x ps max_climb t)) ≡ on_path ps s t u
     both_ways u =
@@ -130,7 +130,7 @@ module _ (tree : Tree) (s t : ℕ) (h : Pair tree.parent s t) where
     pub lightest_on_lem : r ≡ Some (lightest_on tree s t)
     lightest_on_lem =
         met_lightest ws (on_path ps s t) r (lightest_on tree s t) from_both
-        (lowest_lightest h.count tree h.climbs s t h.from h.to h.apart)
+        (lowest_lightest n tree h s t sl tl apart)
 
 -- ---- what is found is a node
 pub node_one : (v : ℕ) → v < max_nodes → IsNode (Some v)
@@ -158,22 +158,22 @@ module _ (weight : List ℕ) where
       (node_one (lighter weight best x) (lighter_below best x l (h x (among_head x xs)))) (λ y m. h y (among_later y x xs m))
 
 pub ruleset going_up =
-    (climb_to_end, climb_to_none, climb_to_stop, up_none, inside_lt, inside_next, node_one, lighter_below)
+    (climb_to_end, climb_to_none, climb_to_stop, up_none, rooted_lt, rooted_next, node_one, lighter_below)
 
-module _ (parent : List ℕ) (stop : ℕ) where
-  climb_to_below : (left i : ℕ) → Inside parent i → (x : ℕ) → among x (climb_to stop parent left i) ≡ true → x < max_nodes
+module _ (n : ℕ) (parent : List ℕ) (c : Climbs n parent) (stop : ℕ) where
+  climb_to_below : (left i : ℕ) → i < n → (x : ℕ) → among x (climb_to stop parent left i) ≡ true → x < max_nodes
   unfolding climb_to among
   climb_to_below zero i h x m = absurd (true≢false (sym m))
-  climb_to_below (suc left) i h x m = go (eqb i 0) (holds stop i) (ℕ_discrete x i) m (climb_to_below left (at parent i) (inside_next h) x)
+  climb_to_below (suc left) i h x m = go (eqb i 0) (holds stop i) (ℕ_discrete x i) m (climb_to_below left (at parent i) (rooted_next c i h) x)
     where
       go : (y z : Bool) → Dec (x ≡ i) → among x (pick y [] (pick z [] (i ∷ climb_to stop parent left (at parent i)))) ≡ true
           → (among x (climb_to stop parent left (at parent i)) ≡ true → x < max_nodes) → x < max_nodes
       go true z d e ih = absurd (true≢false (sym e))
       go false true d e ih = absurd (true≢false (sym e))
-      go false false (yes d) e ih = rw d (inside_lt h)
+      go false false (yes d) e ih = rw d (rooted_lt c i h)
       go false false (no d) e ih = ih (sym (among_on x i (climb_to stop parent left (at parent i)) d) ∙ e)
 
-  pub up_below : (weight : List ℕ) (left i : ℕ) (best : Option ℕ) → Inside parent i → IsNode best
+  pub up_below : (weight : List ℕ) (left i : ℕ) (best : Option ℕ) → i < n → IsNode best
       → IsNode (lightest_from weight best (climb_to stop parent left i))
   up_below weight left i best h l = from_below weight best (climb_to stop parent left i) l (climb_to_below left i h)
 

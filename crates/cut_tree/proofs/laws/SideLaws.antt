@@ -14,7 +14,7 @@ use Rattle.node_set.proofs.laws.SizeLaws.{size_complement}
 use Rattle.base.specs.Basics.{at, differ, among}
 use Rattle.cut_tree.specs.Path.{max_climb, Climbs, climb, under, on_path, side_of}
 use Rattle.cut_tree.specs.code.QueryParts.{Known, added_if}
-use Rattle.cut_tree.proofs.laws.ClimbLaws.{inside_next, climbs_inside, reaches_on, climb_end, climb_none, climb_on, climb_starts}
+use Rattle.cut_tree.proofs.laws.ClimbLaws.{rooted_lt, rooted_next, reaches_on, climb_end, climb_none, climb_on, climb_starts}
 use Rattle.cut_tree.proofs.laws.ClimbLaws.{climb_enough}
 use Rattle.cut_tree.proofs.laws.MemberLaws.{among_on}
 
@@ -43,13 +43,12 @@ module _ (parent : List ℕ) (v x i left j : ℕ) (h : Known parent v x i left j
   known_next n e =
       let s = h.short in
       record {
-        inside = inside_next h.inside;
         rooted = sym (reaches_on parent left j n e) ∙ h.rooted;
         short = omega arith;
         known = h.known;
       }
 
-pub ruleset through = (through_end, through_known, through_none, through_on)
+pub ruleset through = (through_end, through_known, through_none, through_on, rooted_lt, rooted_next)
 
 -- ---- a word that grows
 word_ext : (n : ℕ) (X Y : Side) → ((i : ℕ) → i < n → X i ≡ Y i) → word n X ≡ word n Y
@@ -82,7 +81,6 @@ pass_start parent v = refl
 module _ (parent : List ℕ) (v x i : ℕ) (e : x ≡ word i (under parent v)) where
   pub pass_known : (n : ℕ) → Climbs n parent → i < n → Known parent v x i max_climb i
   pass_known n h l = record {
-    inside = climbs_inside h i l;
     rooted = h.rooted i l;
     short = omega arith;
     known = λ k kl. rw e (word_holds i (under parent v) k kl);

@@ -5,9 +5,8 @@ use Rattle.std.proofs.Common.{sym, ap, ◌∙◌, arith, length-set, get_or-set_
 use Rattle.std.proofs.Math.Bool.{true}
 use Rattle.std.proofs.Math.Decide.{ℕ_discrete}
 use Rattle.base.specs.Word.{holds}
-use Rattle.base.proofs.laws.WordLaws.{holds_out}
-use Rattle.node_set.specs.Set.{removed}
-use Rattle.node_set.proofs.theorems.Members.{removed_same, removed_other}
+use Rattle.node_set.specs.Set.{empty, removed}
+use Rattle.node_set.proofs.theorems.Members.{holds_empty, removed_same, removed_other}
 use Rattle.base.specs.Basics.{pick, at}
 use Rattle.cut_tree.specs.Rule.{moved}
 use Rattle.cut_tree.proofs.laws.RuleLaws.{length_moved, moved_at}
@@ -51,11 +50,10 @@ pub moving_next : (p : List ℕ) (x i s t y v : ℕ) (r : List ℕ) → holds x 
     → moved x s t 0 p ≡ r → moved y s t 0 (set p i v) ≡ r
 moving_next p x i s t y v r h ev ey g = rw (ev, ey) (moved_less p x i s t h ∙ g)
 
-moved_none : (s t i : ℕ) (ps : List ℕ) → moved 0 s t i ps ≡ ps
+moved_none : (s t i : ℕ) (ps : List ℕ) → moved empty s t i ps ≡ ps
 unfolding moved
 moved_none s t i [] = refl
-moved_none s t i (p ∷ ps) =
-    rw (holds_out 0 0 i (omega arith) (omega arith)) (ap (λ (qs : List ℕ). p ∷ qs) (moved_none s t (suc i) ps))
+moved_none s t i (p ∷ ps) = rw (holds_empty i) (ap (λ (qs : List ℕ). p ∷ qs) (moved_none s t (suc i) ps))
 
-pub moving_end : (p : List ℕ) (x s t : ℕ) (r : List ℕ) → x ≡ 0 → moved x s t 0 p ≡ r → p ≡ r
+pub moving_end : (p : List ℕ) (x s t : ℕ) (r : List ℕ) → x ≡ empty → moved x s t 0 p ≡ r → p ≡ r
 moving_end p x s t r e g = sym (moved_none s t 0 p) ∙ (rw e at g)

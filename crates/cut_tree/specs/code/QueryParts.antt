@@ -1,12 +1,12 @@
 -- What the contracts of the pair query's parts cite: its climbs, as the code goes. The query's own contract is
 -- `query_of`.
-use Rattle.std.specs.Prelude.{ℕ, zero, suc, ◌≤◌, ◌<◌, ◌≡◌, ◌≢◌, Bool, true, false, List, [], ◌∷◌, Option, None, Some}
+use Rattle.std.specs.Prelude.{ℕ, zero, suc, ◌≤◌, ◌<◌, ◌≡◌, Bool, true, false, List, [], ◌∷◌, Option, None, Some}
 use Rattle.std.specs.Prelude.{ltb, eqb}
 use Rattle.base.specs.Word.{holds}
 use Rattle.node_set.specs.Set.{added}
 use Rattle.base.specs.Basics.{pick, at}
 use Rattle.network.specs.Limits.{max_nodes}
-use Rattle.cut_tree.specs.Path.{max_climb, reaches, Climbs, under}
+use Rattle.cut_tree.specs.Path.{max_climb, reaches, under}
 
 -- a climb from i stays below a bound
 pub record Inside (parent : List ℕ) (i : ℕ) : Type 0 where
@@ -44,7 +44,6 @@ IsNode best = (v : ℕ) → best ≡ Some v → v < max_nodes
 
 -- whether the nodes below i climb through v is known of the set x; a climb has come to j
 pub record Known (parent : List ℕ) (v x i left j : ℕ) : Type 0 where
-  pub inside : Inside parent j
   pub rooted : reaches parent left j ≡ true
   pub short : left ≤ max_climb
   pub known : (k : ℕ) → k < i → holds x k ≡ under parent v k
@@ -53,11 +52,3 @@ pub record Known (parent : List ℕ) (v x i left j : ℕ) : Type 0 where
 abbrev pub added_if : Bool → ℕ → ℕ → ℕ
 added_if true x i = added x i
 added_if false x i = x
-
--- two different ones of some nodes that all climb to node 0
-pub record Pair (parent : List ℕ) (s t : ℕ) : Type 0 where
-  pub count : ℕ
-  pub climbs : Climbs count parent
-  pub from : s < count
-  pub to : t < count
-  pub apart : s ≢ t

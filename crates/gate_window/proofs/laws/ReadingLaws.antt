@@ -1,9 +1,6 @@
 -- A reading by value: one law for each way through the code.
-use Rattle.std.specs.Prelude.{ℕ, zero, suc, ◌+◌, ◌≤◌, ◌<◌, ◌≡◌, ◌≢◌, Bool, true, false, not, [], ◌∷◌, ltb, ℤ, Ok, Err}
-use Rattle.std.proofs.Common.{refl, sym, ap, ap₂, ◌∙◌, arith, lt-ltb, le-ltb, SFits, to_z, of_z, to_z-of_z}
-use Rattle.std.specs.Int.Signed.{lt_z}
-use Rattle.std.specs.Int.{w32}
-use Rattle.base.specs.Basics.{pick}
+use Rattle.std.specs.Prelude.{ℕ, zero, suc, ◌≤◌, ◌<◌, ◌≡◌, ◌≢◌, not, [], ◌∷◌, ltb, Ok, Err}
+use Rattle.std.proofs.Common.{refl, sym, ap, ◌∙◌, lt-ltb, le-ltb}
 use Rattle.base.specs.Checks.{row, check, accepted}
 use Rattle.base.proofs.laws.ChecksLaws.{positive, chain_on}
 use Rattle.network.specs.Refusals.{refusal_number, too_many_readings}
@@ -15,35 +12,8 @@ use Rattle.plan.specs.declared.Plan.{Plan}
 use Rattle.plan.specs.Results.{as_headroom}
 use Rattle.plan.specs.declared.HeadroomFound.{HeadroomFound}
 use Rattle.plan.specs.declared.HeadroomReply.{HeadroomReply}
-use Rattle.gate_window.specs.Reading.{max_readings, reading_number, lowest_by, noted, read, not_read, reading_of}
+use Rattle.gate_window.specs.Reading.{max_readings, reading_number, read, not_read, reading_of}
 use Rattle.gate_window.specs.declared.Window.{Window}
-
--- a signed number as it is handed on: its bits, read back
-abbrev pub back : ℤ → ℤ
-back z = to_z w32 (of_z w32 z)
-
--- ---- the lowest
-lowest_fits : (n : ℕ) (lowest z : ℤ) → SFits w32 lowest → SFits w32 z → SFits w32 (lowest_by n lowest z)
-lowest_fits zero lowest z f g = g
-lowest_fits (suc n) lowest z f g = go (lt_z z lowest)
-  where
-    go : (b : Bool) → SFits w32 (pick b z lowest)
-    go true = g
-    go false = f
-
--- ---- the three numbers; l is the lowest that the code found
-pub noted_is : (w : Window) (z l : ℤ) → SFits w32 w.lowest → SFits w32 z → l ≡ lowest_by w.count (back w.lowest) (back z)
-    → record { last = back z; lowest = back l; count = w.count + 1 } ≡ noted w z
-noted_is w z l f g e = λ i. record { last = to_z-of_z g i; lowest = low i; count = more i }
-  where
-    plain : l ≡ lowest_by w.count w.lowest z
-    plain = e ∙ ap₂ (lowest_by w.count) (to_z-of_z f) (to_z-of_z g)
-
-    low : back l ≡ lowest_by w.count w.lowest z
-    low = ap back plain ∙ to_z-of_z (lowest_fits w.count w.lowest z f g)
-
-    more : w.count + 1 ≡ suc w.count
-    more = omega arith
 
 -- ---- the reading; h is the headroom that the code found
 -- what the record's own row says

@@ -1,20 +1,12 @@
 -- The window's characters, one law for each way through the code, and what they are in each part of the range.
-use Rattle.std.specs.Prelude.{ℕ, suc, ◌+◌, ◌/◌, ◌%◌, ◌≤◌, ◌<◌, ◌≡◌, refl, Bool, true, List, [], ◌∷◌, ◌++◌, length, drop}
+use Rattle.std.specs.Prelude.{ℕ, suc, ◌+◌, ◌/◌, ◌%◌, ◌≤◌, ◌<◌, ◌≡◌, refl, Bool, true, [], ◌∷◌, ◌++◌, length, drop}
 use Rattle.std.specs.Prelude.{false, ℤ, pos, negsuc, ltb}
-use Rattle.std.proofs.Common.{sym, ap, ◌∙◌, arith, drop_of_length-le, drop-cons, ltb-true, ltb-false, SFits, to_z, of_z, to_z-of_z}
+use Rattle.std.proofs.Common.{sym, ap, ◌∙◌, arith, ltb-true, ltb-false, SFits, to_z, of_z, to_z-of_z}
 use Rattle.std.specs.Int.Signed.{lt_z}
 use Rattle.std.specs.Int.{w32}
-use Rattle.base.specs.Basics.{at}
 use Rattle.text.specs.Text.{decimal, right_aligned, numeral, text_of}
 use Rattle.text.proofs.laws.TextLaws.{decimal_one, decimal_more, aligned_wider}
 use Rattle.gate_window.specs.Shown.{window_width, lowest_shown, highest_shown, low, high, window_text}
-
--- ---- the last four of twelve bytes
-pub four_last : (xs : List ℕ) → length xs ≡ 12 → at xs 8 ∷ at xs 9 ∷ at xs 10 ∷ at xs 11 ∷ [] ≡ drop 8 xs
-four_last xs e =
-    sym (drop-cons xs 8 0 (omega arith) ∙ ap (λ ys. at xs 8 ∷ ys) (drop-cons xs 9 0 (omega arith)
-    ∙ ap (λ ys. at xs 9 ∷ ys) (drop-cons xs 10 0 (omega arith) ∙ ap (λ ys. at xs 10 ∷ ys) (drop-cons xs 11 0 (omega arith)
-    ∙ ap (λ ys. at xs 11 ∷ ys) (drop_of_length-le xs {i = 12} (omega arith))))))
 
 -- ---- the numeral in four places
 module _ (n : ℕ) where

@@ -1,9 +1,7 @@
 -- One call, given the plan of the machine's state: its reply is as demand 3 says, and the plan after it is that of the next state.
-use Rattle.std.specs.Prelude.{◌≡◌, ◌≢◌, not, replicate, eqb}
+use Rattle.std.specs.Prelude.{◌≡◌, ◌≢◌, not, replicate, eqb, List, [], ◌∷◌, ℕ, zero, suc, ◌-◌, ◌≤◌, ◌<◌}
 use Rattle.std.proofs.Math.Path.{refl, sym, ap}
 use Rattle.std.proofs.Common.{◌∙◌, arith}
-use mathlib.Core.List.{List, [], ◌∷◌}
-use Prim.Native.Nat.{ℕ, zero, suc, ◌-◌, ◌≤◌, ◌<◌}
 use Rattle.std.proofs.Math.ListN.{length, length-set, get_or-append}
 use Rattle.std.proofs.Math.Seq.{take_at}
 use Rattle.std.proofs.Math.Dec.{eqb-suc-zero}

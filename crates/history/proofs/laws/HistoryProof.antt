@@ -1,12 +1,10 @@
 -- Demand 3, by induction over the list of calls.
-use Rattle.std.specs.Prelude.{◌≡◌, refl, ◌≢◌, true, not, ℕ, ◌+◌, ◌-◌, ◌<◌, drop, replicate, eqb}
+use Rattle.std.specs.Prelude.{◌≡◌, refl, ◌≢◌, true, not, ℕ, ◌+◌, ◌-◌, ◌<◌, drop, replicate, eqb, List, [], ◌∷◌, ◌++◌}
 use Rattle.std.proofs.Math.Path.{sym, ap, ap₂, subst}
-use Rattle.std.proofs.Common.{◌∙◌, arith, length-drop, take-append-drop, length-take-le}
-use mathlib.Core.List.{List, [], ◌∷◌, ◌++◌}
+use Rattle.std.proofs.Common.{◌∙◌, arith, length-drop, take-append-drop, length-take-le, lt-ltb, le-ltb, eq-eqb, ne_eqb}
 use Rattle.std.proofs.Math.ListN.{length, take}
 use Rattle.std.proofs.lemmas.List.Edits.{sets, sets-eq}
 use Rattle.std.proofs.Math.Seq.{take-append_seam}
-use borrow.Author.Tests.{lt-ltb, le-ltb, eq-eqb, ne_eqb}
 use Rattle.base.specs.Basics.{blank, among}
 use Rattle.base.proofs.laws.TestLaws.{shown, head, rest}
 use Rattle.base.specs.Checks.{row, chain}

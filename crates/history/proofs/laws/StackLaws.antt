@@ -1,8 +1,7 @@
 -- The machine's stack as the plan's arrays: its depth, its limits, its top, and what a pop leaves.
 use Rattle.std.specs.Prelude.{◌≡◌, refl, true, List, [], ◌∷◌, ℕ, ◌-◌, ◌≤◌, ◌<◌, length}
-use Rattle.std.proofs.Common.{sym, ◌∙◌, length-set, set-set, le-leb}
+use Rattle.std.proofs.Common.{sym, ◌∙◌, length-set, set-set, le-leb, arith}
 use Rattle.std.proofs.Math.Path.{ap}
-use native.Mathlib.Omega.{arith}
 use Rattle.std.proofs.Math.ListN.{set}
 use Rattle.std.proofs.lemmas.List.{length-replicate, set-get_or}
 use Rattle.std.proofs.Math.Seq.{get_or-set_same}

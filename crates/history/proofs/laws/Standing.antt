@@ -1,8 +1,6 @@
 -- The capacities are those at opening with each accepted change that is not undone applied in order.
-use Rattle.std.specs.Prelude.{◌≡◌, length, set, replicate}
+use Rattle.std.specs.Prelude.{◌≡◌, length, set, replicate, List, [], ◌∷◌, ℕ, zero, suc, ◌-◌, ◌<◌}
 use Rattle.std.proofs.Common.{sym, ap, subst, ◌∙◌, arith, set-set}
-use mathlib.Core.List.{List, [], ◌∷◌}
-use Prim.Native.Nat.{ℕ, zero, suc, ◌-◌, ◌<◌}
 use Rattle.std.proofs.Math.ListN.{get_or-append}
 use Rattle.std.proofs.lemmas.List.{set-get_or}
 use Rattle.base.specs.Basics.{at}

@@ -26,7 +26,7 @@ use Rattle.cut_tree.specs.Path.{PairAnswer}
 use Rattle.plan.specs.Plan.{max_depth, tree_fits, steps_fit, stack_fits, sound}
 use Rattle.plan.specs.Calls.{open_of, change_number, altered, change_of, pair_number, pair_of, flow_number, write_number}
 use Rattle.plan.specs.Calls.{write_of, written_to}
-use Rattle.history.specs.Machine.{change, undo, pair, flow, preview, State, begin, refusal, next, state, ask}
+use Rattle.history.specs.Machine.{change, undo, flow, preview, State, begin, refusal, next, state, ask}
 use Rattle.history.specs.Run.{Event, calls_of, Promised, plan_after, left}
 use Rattle.history.specs.History.{AtCall, Replies, Reopens, Demand3}
 use Rattle.history.proofs.theorems.Whole.{opens_every_network}

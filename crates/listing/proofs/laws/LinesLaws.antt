@@ -1,10 +1,11 @@
 -- The lines of a plan while they are written: the turns of the loops over the nodes of the tree, over the nodes above one, and over all.
-use Rattle.std.specs.Prelude.{ℕ, zero, suc, ◌+◌, ◌-◌, ◌≤◌, ◌<◌, ◌≡◌, refl, List, [], ◌∷◌, ◌++◌, length}
+use Rattle.std.specs.Prelude.{Result, Ok, Err, MatchResult, ℕ, zero, suc, ◌+◌, ◌-◌, ◌≤◌, ◌<◌, ◌≡◌, refl, List, [], ◌∷◌, ◌++◌, length}
 use Rattle.std.proofs.Common.{ap, subst, arith, add-one, length-append}
 use Rattle.std.proofs.Math.Decide.{ℕ_discrete}
-use Rattle.cut_tree.specs.Path.{weight_of, side_in}
+use Rattle.cut_tree.specs.Results.{as_answer}
+use Rattle.cut_tree.specs.declared.PairFound.{PairFound}
+use Rattle.network.specs.declared.refusals.Refusal.{Refusal}
 use Rattle.cut_tree.specs.declared.Tree.{Tree}
-use Rattle.cut_tree.specs.Path.{PairAnswer}
 use Rattle.plan.specs.Calls.{pair_of}
 use Rattle.plan.specs.declared.Plan.{Plan}
 use Rattle.listing.specs.Listing.{line_of, pair_word, tree_line, tree_lines, pair_line, pairs_of, pair_lines, plan_lines}
@@ -52,9 +53,6 @@ module _ (tree : Tree) {l m : List ℕ} {place next : ℕ} (i : ℕ) (b : 1 ≤ 
       let e : i + 1 - 1 ≡ suc (i - 1) = omega arith in
       rw e (grow_more (tree_lines tree) (λ k. tree_line tree (suc k)) (tree_grows tree) (i - 1) h (rw same p))
 
-  pub tree_end : (n : ℕ) → i - 1 ≤ n - 1 → n ≤ i → Puts l place (tree_lines tree (n - 1)) next m
-  tree_end n c d = let e : n - 1 ≡ i - 1 = omega arith in rw e h
-
 -- ---- node s and those above it: s + 1 to t - 1 are written
 pairs_grow : (p : Plan) (s k : ℕ) → pairs_of p s (suc k) ≡ pairs_of p s k ++ pair_line p s (s + suc k)
 unfolding pairs_of
@@ -78,15 +76,14 @@ module _ (p : Plan) (s : ℕ) {l m : List ℕ} {place next : ℕ} (t : ℕ) (b :
       let e : t + 1 - suc s ≡ suc (t - suc s) = omega arith in
       rw e (grow_more (pairs_of p s) (λ k. pair_line p s (s + suc k)) (pairs_grow p s) (t - suc s) h (rw above q))
 
-  pub pairs_end : (n : ℕ) → t ≤ n → n ≤ t → Puts l place (pairs_of p s (n - suc s)) next m
-  pairs_end n c d = let e : n ≡ t = omega arith in rw e h
-
--- a pair's line, by its answer
-pub pair_is : (p : Plan) (s t : ℕ) {answer : PairAnswer} {weight side : ℕ} → answer ≡ pair_of p s t → weight ≡ weight_of answer
-    → side ≡ side_in answer
-    → line_of pair_word (s ∷ t ∷ weight ∷ side ∷ []) ≡ pair_line p s t
+-- a pair's line, by the call's result: its weight and side, zeros where it is refused
+pub pair_is : (p : Plan) (s t : ℕ) (r : Result PairFound Refusal) {x : ℕ × ℕ} {P : PairFound → Type 0}
+    → as_answer r ≡ pair_of p s t → MatchResult r P (λ e. x ≡ (0, 0))
+    → ((found : PairFound) → P found → x ≡ (found.weight, found.side))
+    → line_of pair_word (s ∷ t ∷ x.0 ∷ x.1 ∷ []) ≡ pair_line p s t
 unfolding pair_line
-pair_is p s t a w d = rw (w, d, a)
+pair_is p s t (Ok found) a m f = rw (f found m, ← a)
+pair_is p s t (Err e) a m f = rw (m, ← a)
 
 -- ---- all: nodes 0 to s - 1 are written
 lines_grow : (p : Plan) (k : ℕ) → pair_lines p (suc k) ≡ pair_lines p k ++ pairs_of p k (p.network.nodes - suc k)
@@ -104,9 +101,6 @@ module _ (p : Plan) {l m : List ℕ} {place next : ℕ} (s : ℕ) (h : Puts l pl
 
   pub lines_more : {r : ℕ} {n : List ℕ} → Puts m next (pairs_of p s (p.network.nodes - suc s)) r n → Puts l place (pair_lines p (s + 1)) r n
   lines_more q = rw add-one (grow_more (pair_lines p) (λ k. pairs_of p k (p.network.nodes - suc k)) (lines_grow p) s h q)
-
-  pub lines_end : (n : ℕ) → s ≤ n → n ≤ s → Puts l place (pair_lines p n) next m
-  lines_end n c d = let e : n ≡ s = omega arith in rw e h
 
 -- ---- the tree, then the pairs
 pub plan_length : (p : Plan)

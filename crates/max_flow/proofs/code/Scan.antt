@@ -1,5 +1,5 @@
 -- What holds of the definitions of specs/code/Scan.antt.
-use Rattle.std.proofs.Common.{◌≡◌, refl, true, false, List, [], ℕ, ◌+◌, ◌-◌, ◌*◌, ◌/◌, ◌%◌, ◌<◌, ◌≤◌, get_or, sym, ap}
+use Rattle.std.proofs.Common.{◌≡◌, refl, true, false, List, [], ℕ, suc, ◌+◌, ◌*◌, ◌/◌, ◌%◌, ◌<◌, ◌≤◌, get_or, sym, ap}
 use Rattle.std.proofs.Common.{subst, ◌∙◌, true≢false, arith}
 use Rattle.std.proofs.Math.Decide.{ℕ_discrete, dec_lt}
 use Rattle.base.specs.Word.{holds}
@@ -7,24 +7,27 @@ use Rattle.min_cut.specs.code.Arcs.{tail, tip}
 use Rattle.base.specs.Basics.{at}
 use Rattle.network.specs.Network.{network_fits, graph}
 use Rattle.network.proofs.laws.NetworkLaws.{nodes_le, links_le}
+use Rattle.network.specs.code.ArcLinks.{entry_at}
 use Rattle.network.specs.code.Incidence.{Chains, Leaves}
 use Rattle.network.specs.declared.Network.{Network}
+use Rattle.network.specs.declared.arc_link.ArcLink.{ArcLink}
 use Rattle.node_set.specs.Set.{empty, added}
 use Rattle.node_set.proofs.theorems.Members.{holds_empty, added_same, added_other}
-use Rattle.max_flow.specs.LeastCut.{Endpoints}
 use Rattle.max_flow.specs.code.Residuals.{room_on}
 use Rattle.max_flow.proofs.laws.ResidualLaws.{spare_read}
 use Rattle.max_flow.specs.code.Search.{seed_of, Ready, Searched}
 use Rattle.max_flow.proofs.laws.SearchLaws.{Visited, visited_old, visited_new}
 use Rattle.max_flow.proofs.laws.SearchLaws.{seed_tree, inside, place_lt, node_lt, free, tip_lt}
+use Rattle.max_flow.specs.declared.ends.Ends.{Ends}
 use Rattle.max_flow.specs.declared.search.SearchTree.{SearchTree}
 use Rattle.max_flow.specs.code.Scan.{Done, Fresh, Inner, Looking, Outer, Placed}
 
-pub ready : {net : Network} {first next to : List ℕ} {s t : ℕ} → Endpoints net s t → Chains net (2 * net.links) first next to
-    → Ready net first next to s t
-ready e c = record { ends = e; chains = c }
+pub ready : (ends : Ends)
+    → Ready ends.prepared.now.network ends.prepared.now.arcs.first ends.prepared.now.arcs.next ends.prepared.now.arcs.to
+    ends.s ends.t
+ready ends = record { ends = ends.two; chains = ends.prepared.now.chains }
 
-module _ {net : Network} {first next to : List ℕ} {s t : ℕ} (a : Ready net first next to s t) where
+module _ {net : Network} {first next : List ArcLink} {to : List ℕ} {s t : ℕ} (a : Ready net first next to s t) where
   h : network_fits net ≡ true
   h = a.ends.fits
 
@@ -52,17 +55,11 @@ module _ {net : Network} {first next to : List ℕ} {s t : ℕ} (a : Ready net f
               o.behind k.0 (omega (arith, k.1)) e el (omega arith) (sym k.2) z;
         }
 
-    pub placed : i < w.count → Placed first w i
+    pub placed : i < w.count → Placed w i
     placed l =
-        let f = o.tree in
-        let leaves = c.first_leaves (at w.node i) (inside f (at w.node i) (f.held i l)) in
-        record {
-          place = place_lt f h i l;
-          node = node_lt f h i l;
-          chain = omega (arith, leaves.under, links_le net h);
-        }
+        record { place = place_lt o.tree h i l; node = node_lt o.tree h i l }
 
-    pub inner_start : i < w.count → Inner net r s t w i (at w.node i) (at first (at w.node i))
+    pub inner_start : i < w.count → Inner net r s t w i (at w.node i) (entry_at first (at w.node i))
     inner_start l =
         record {
           outer = o;
@@ -85,87 +82,89 @@ module _ {net : Network} {first next to : List ℕ} {s t : ℕ} (a : Ready net f
       go k l (yes e) = rw (e, o.node) o.done
       go k l (no d) = o.outer.behind k (omega arith)
 
-  -- ---- the loop over a node's arcs: arc e - 1 is looked at
-  module _ {r : List (List ℕ)} {w : SearchTree} {i u e : ℕ} (o : Inner net r s t w i u e) (some : 0 < e) where
-    el : e - 1 < 2 * net.links
+  -- ---- the loop over a node's arcs: arc j is looked at
+  module _ {r : List (List ℕ)} {w : SearchTree} {i u j : ℕ} (o : Inner net r s t w i u (suc j)) where
+    el : j < 2 * net.links
     el = omega (arith, o.chain.under)
 
-    et : tail (graph net) (e - 1) ≡ at w.node i
-    et = o.chain.from some ∙ sym o.node
+    leaves_u : tail (graph net) j ≡ u
+    leaves_u = ap (tail (graph net)) (omega arith) ∙ o.chain.from (omega arith)
 
-    leads_to_lem : at to (e - 1) ≡ tip (graph net) (e - 1)
-    leads_to_lem = c.leads (e - 1) el
+    et : tail (graph net) j ≡ at w.node i
+    et = leaves_u ∙ sym o.node
+
+    leads_to_lem : at to j ≡ tip (graph net) j
+    leads_to_lem = c.leads j el
 
     abbrev x : ℕ
-    x = at to (e - 1)
+    x = at to j
 
-    x_lt : at to (e - 1) < net.nodes
-    x_lt = rw leads_to_lem (tip_lt net h (e - 1) el)
+    x_lt : at to j < net.nodes
+    x_lt = rw leads_to_lem (tip_lt net h j el)
 
-    pub looking : Looking next to w i e
+    pub looking : Looking next to w i j
     looking =
         record {
           arc = omega (arith, el, links_le net h);
           node = omega (arith, x_lt, nodes_le net h);
           place = place_lt o.outer.tree h i o.here;
-          free = λ new. omega (arith, free o.outer.tree (at to (e - 1)) x_lt new, nodes_le net h);
-          falls = omega (arith, (c.next_leaves (e - 1) el).under);
+          free = λ new. omega (arith, free o.outer.tree (at to j) x_lt new, nodes_le net h);
+          falls = omega (arith, (c.next_leaves j el).under);
         }
 
-    inner_next : {w' : SearchTree} → Visited net r s w (e - 1) w' → holds w'.reached t ≡ false
-        → Inner net r s t w' i u (at next (e - 1))
+    inner_next : {w' : SearchTree} → Visited net r s w j w' → holds w'.reached t ≡ false
+        → Inner net r s t w' i u (entry_at next j)
     inner_next {w'} seen q =
         record {
           outer =
               record {
                 tree = seen.tree;
                 missed = q;
-                behind = λ k l j jl z y q1.
-                    seen.keeps (tip (graph net) j)
-                    (o.outer.behind k l j jl z (y ∙ seen.keeps_node k (omega (arith, o.here))) q1);
+                behind = λ k l m ml z y q1.
+                    seen.keeps (tip (graph net) m)
+                    (o.outer.behind k l m ml z (y ∙ seen.keeps_node k (omega (arith, o.here))) q1);
               };
           here = omega (arith, seen.more, o.here);
           node = seen.keeps_node i o.here ∙ o.node;
-          chain = record { under = omega (arith, n.under, el); from = λ q1. n.from q1 ∙ o.chain.from some };
-          done = λ j jl z y q1. go j jl z y q1 (dec_lt j e) (ℕ_discrete j (e - 1));
+          chain = record { under = omega (arith, n.under, el); from = λ q1. n.from q1 ∙ leaves_u };
+          done = λ m ml z y q1. go m ml z y q1 (dec_lt m (suc j)) (ℕ_discrete m j);
         }
       where
-        n : Leaves net (tail (graph net) (e - 1)) (e - 1) (at next (e - 1))
-        n = c.next_leaves (e - 1) el
+        n : Leaves net (tail (graph net) j) j (entry_at next j)
+        n = c.next_leaves j el
 
-        go : (j : ℕ) → j < 2 * net.links → at next (e - 1) ≤ j → tail (graph net) j ≡ u → 0 < room_on r j
-            → Dec (j < e) → Dec (j ≡ e - 1) → holds w'.reached (tip (graph net) j) ≡ true
-        go j jl z y q1 (no b) d = seen.keeps (tip (graph net) j) (o.done j jl (omega arith) y q1)
-        go j jl z y q1 (yes b) (yes d) =
-            ap (λ j. holds w'.reached (tip (graph net) j)) d ∙ seen.takes (subst (λ j. 0 < room_on r j) d q1)
-        go j jl z y q1 (yes b) (no d) =
-            absurd (omega (arith, c.next_last (e - 1) j el (omega arith) (y ∙ sym (o.chain.from some))))
+        go : (m : ℕ) → m < 2 * net.links → entry_at next j ≤ m → tail (graph net) m ≡ u → 0 < room_on r m
+            → Dec (m < suc j) → Dec (m ≡ j) → holds w'.reached (tip (graph net) m) ≡ true
+        go m ml z y q1 (no b) d = seen.keeps (tip (graph net) m) (o.done m ml (omega arith) y q1)
+        go m ml z y q1 (yes b) (yes d) =
+            ap (λ m. holds w'.reached (tip (graph net) m)) d ∙ seen.takes (subst (λ m. 0 < room_on r m) d q1)
+        go m ml z y q1 (yes b) (no d) = absurd (omega (arith, c.next_last j m el (omega arith) (y ∙ sym leaves_u)))
 
     -- it has no room
-    pub next_full : get_or (get_or r ((e - 1) / 2) []) ((e - 1) % 2) 0 ≤ 0 → Inner net r s t w i u (at next (e - 1))
+    pub next_full : get_or (get_or r (j / 2) []) (j % 2) 0 ≤ 0 → Inner net r s t w i u (entry_at next j)
     next_full q =
-        let full = visited_old o.outer.tree (e - 1) (λ z. absurd (omega (arith, spare_read r (e - 1)))) in
+        let full = visited_old o.outer.tree j (λ z. absurd (omega (arith, spare_read r j))) in
         inner_next full o.outer.missed
 
     -- it leads to a node that is reached
-    pub next_held : holds w.reached x ≡ true → Inner net r s t w i u (at next (e - 1))
+    pub next_held : holds w.reached x ≡ true → Inner net r s t w i u (entry_at next j)
     next_held q =
-        let held = visited_old o.outer.tree (e - 1) (λ z. ap (holds w.reached) (sym leads_to_lem) ∙ q) in
+        let held = visited_old o.outer.tree j (λ z. ap (holds w.reached) (sym leads_to_lem) ∙ q) in
         inner_next held o.outer.missed
 
     -- it leads to a new one
-    module _ {w' : SearchTree} (f : Fresh to r w i e w') where
-      seen : Visited net r s w (e - 1) w'
+    module _ {w' : SearchTree} (f : Fresh to r w i j w') where
+      seen : Visited net r s w j w'
       seen =
           let most = rw spare_read at f.most in
           let some = rw spare_read at f.some in
           rw f.tree
-          (visited_new o.outer.tree (e - 1) h i o.here el et x f.amount leads_to_lem most some f.new)
+          (visited_new o.outer.tree j h i o.here el et x f.amount leads_to_lem most some f.new)
 
       holds_new : (y : ℕ) → holds w'.reached y ≡ holds (added w.reached x) y
       holds_new y = ap (λ (v : SearchTree). holds v.reached y) f.tree
 
-      pub next_new : (x ≡ t → ⊥) → Inner net r s t w' i u (at next (e - 1))
+      pub next_new : (x ≡ t → ⊥) → Inner net r s t w' i u (entry_at next j)
       next_new z = inner_next seen (holds_new t ∙ added_other w.reached x t (λ y. z (sym y)) ∙ o.outer.missed)
 
       -- to t

@@ -9,6 +9,7 @@ use Rattle.network.specs.Limits.{max_nodes}
 use Rattle.network.specs.Network.{graph}
 use Rattle.network.specs.code.Incidence.{Chains}
 use Rattle.network.specs.declared.Network.{Network}
+use Rattle.network.specs.declared.arc_link.ArcLink.{ArcLink}
 use Rattle.node_set.specs.Set.{empty, added, size}
 use Rattle.max_flow.specs.LeastCut.{Endpoints}
 use Rattle.max_flow.specs.GrowingFlow.{ahead, back}
@@ -16,7 +17,7 @@ use Rattle.max_flow.specs.code.Residuals.{unlimited, room_on}
 use Rattle.max_flow.specs.declared.search.SearchTree.{SearchTree}
 
 -- two nodes, and the chains of the network's arcs
-pub record Ready (net : Network) (first next to : List ℕ) (s t : ℕ) : Type 0 where
+pub record Ready (net : Network) (first next : List ArcLink) (to : List ℕ) (s t : ℕ) : Type 0 where
   pub ends : Endpoints net s t
   pub chains : Chains net (2 * net.links) first next to
 

@@ -1,6 +1,6 @@
 -- What holds of the definitions of specs/code/Residual.antt.
 use Rattle.std.specs.Prelude.{◌≡◌, Bool, true, false, ℕ, ◌+◌, ◌≤◌, ◌<◌}
-use native.Mathlib.Omega.{arith}
+use Rattle.std.proofs.Common.{arith}
 use Rattle.std.proofs.Math.Decide.{ℕ_discrete}
 use Rattle.base.proofs.laws.Bools.{bool1, bool2}
 use Rattle.base.proofs.laws.SumLaws.{sum_ext, sum_zero, sum_term, sum_at}

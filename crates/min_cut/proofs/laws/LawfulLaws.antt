@@ -2,11 +2,9 @@
 -- lawful flow to residual form.
 use Rattle.std.specs.Prelude.{◌≡◌, ◌≢◌, ℕ, zero, suc, ◌+◌, ◌*◌, ◌≤◌, ◌<◌, eqb, ℤ, nat_abs, ◌+ℤ◌, ◌-ℤ◌}
 use Rattle.std.proofs.Math.Path.{refl}
-use Rattle.std.proofs.Common.{sym, ap₂, ◌∙◌}
+use Rattle.std.proofs.Common.{sym, ap₂, ◌∙◌, arith, eq-eqb, ne_eqb}
 use Rattle.std.proofs.Math.Bool.{true}
-use native.Mathlib.Omega.{arith}
 use Rattle.std.proofs.Math.IntN.{pos}
-use borrow.Author.Tests.{eq-eqb, ne_eqb}
 use Rattle.base.proofs.laws.IntParts.{above, under, sum_parts, size_parts, one_part, same_parts}
 use Rattle.base.proofs.laws.SumLaws.{sum_zero, sum_two}
 use Rattle.base.specs.Sum.{sum}

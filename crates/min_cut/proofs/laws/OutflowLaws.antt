@@ -1,10 +1,9 @@
 -- What a flow sends across a side is what its nodes send out together; it is no more than the side's cut value.
-use Rattle.std.specs.Prelude.{◌≡◌, ◌≢◌, Bool, ◌&&◌, ◌||◌, eqb, ltb, ℤ, pos, nat_abs, ◌+ℤ◌, ◌-ℤ◌}
+use Rattle.std.specs.Prelude.{◌≡◌, ◌≢◌, Bool, ◌&&◌, ◌||◌, eqb, ltb, ℤ, pos, nat_abs, ◌+ℤ◌, ◌-ℤ◌, ℕ, zero, suc, ◌+◌, ◌*◌}
+use Rattle.std.specs.Prelude.{◌≤◌, ◌<◌}
 use Rattle.std.proofs.Math.Path.{refl, fun_ext}
 use Rattle.std.proofs.Math.Bool.{true, false}
-use Rattle.std.proofs.Common.{true≢false, ltb-true, ltb-false, lt-ltb, le-ltb, eq-eqb, ne_eqb}
-use Prim.Native.Nat.{ℕ, zero, suc, ◌+◌, ◌*◌, ◌≤◌, ◌<◌}
-use native.Mathlib.Omega.{arith}
+use Rattle.std.proofs.Common.{true≢false, ltb-true, ltb-false, lt-ltb, le-ltb, eq-eqb, ne_eqb, arith}
 use Rattle.std.proofs.Math.Decide.{ℕ_discrete}
 use Rattle.base.proofs.laws.Bools.{bool1, bool2}
 use Rattle.base.proofs.laws.SumLaws.{sum_ext, sum_zero, sum_le, sum_eq2, sum_eq3}

@@ -1,8 +1,7 @@
 -- The least minimum cut is a minimum cut among all sides, is contained in every other, and is the only word that is
 -- both.
-use Rattle.std.specs.Prelude.{◌≡◌, refl, ◌≢◌, true, false, eqb}
+use Rattle.std.specs.Prelude.{◌≡◌, refl, ◌≢◌, true, false, eqb, ℕ, ◌^◌, ◌≤◌, ◌<◌}
 use Rattle.std.proofs.Common.{sym, ap, ◌∙◌, true≢false, arith, pow_pos, eq-eqb, ne_eqb}
-use Prim.Native.Nat.{ℕ, ◌^◌, ◌≤◌, ◌<◌}
 use Rattle.std.proofs.Math.Decide.{dec_lt}
 use Rattle.base.proofs.laws.Bools.{and_both, and_not_both}
 use Rattle.min_cut.specs.Cut.{Net, Side, cut_value, ◌∩◌, ◌⊆◌, MinCut, LeastMinCut, Within}

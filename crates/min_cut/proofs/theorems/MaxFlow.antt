@@ -1,10 +1,8 @@
 -- Lawful flows and residual form; weak duality; maximum flows and minimum cuts.
 use Rattle.std.specs.Prelude.{◌≡◌, ◌≢◌, Bool, true, false, not, ℕ, ◌+◌, ◌≤◌, ◌<◌, eqb, ℤ, pos, ◌≤ℤ◌}
 use Rattle.std.proofs.Math.Path.{refl}
-use Rattle.std.proofs.Common.{sym, ap, subst, ◌∙◌}
-use native.Mathlib.Omega.{arith}
+use Rattle.std.proofs.Common.{sym, ap, subst, ◌∙◌, arith, eq-eqb, ne_eqb}
 use Rattle.std.proofs.Math.Decide.{ℕ_discrete}
-use borrow.Author.Tests.{eq-eqb, ne_eqb}
 use Rattle.base.proofs.laws.SumLaws.{sum_single}
 use Rattle.base.specs.Sum.{sum}
 use Rattle.min_cut.specs.Cut.{Net, Side, cut_value, complement, Separates, MinCut, Within}

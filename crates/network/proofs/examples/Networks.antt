@@ -12,6 +12,7 @@ use Rattle.base.specs.Basics.{all, every, blank}
 use Rattle.network.specs.Limits.{max_nodes, max_links, max_arcs, max_value}
 use Rattle.network.specs.Network.{network_fits, no_network, with_capacity, graph, crosses_link, value_of, least_side}
 use Rattle.network.specs.Network.{min_cut_value, total_of}
+use Rattle.network.specs.code.Links.{link_of}
 use Rattle.network.specs.code.Incidence.{arcs_from, walk}
 use Rattle.network.specs.Refusals.{refusal_number, outcome_number}
 use Rattle.network.specs.declared.Network.{Network}
@@ -40,6 +41,11 @@ resort_a = network 4 (0 ∷ 1 ∷ 2 ∷ 0 ∷ 0 ∷ []) (1 ∷ 2 ∷ 3 ∷ 3 ∷
 resort_a_fits : network_fits resort_a ≡ true
 unfolding network_fits every all blank
 resort_a_fits = refl
+
+-- its first link and its last
+first_and_last : (link_of resort_a 0 ≡ record { a = 0; b = 1; capacity = 5 })
+    × (link_of resort_a 4 ≡ record { a = 0; b = 2; capacity = 1 })
+first_and_last = (refl, refl)
 
 -- n nodes, and m links that all join nodes 0 and 63 and have the highest capacity
 abbrev alike : (n m : ℕ) → Network

@@ -1,10 +1,9 @@
 -- What the limits of a network say, and that a changed capacity keeps them.
-use Rattle.std.proofs.Common.{◌≡◌, ◌≢◌, Bool, true, ℕ, ◌+◌, ◌≤◌, ◌<◌, refl, ◌∙◌, length-set, drop-set-lt, arith, add-one}
+use Rattle.std.proofs.Common.{◌≡◌, ◌≢◌, Bool, true, ℕ, ◌≤◌, ◌<◌, ◌∙◌, length-set, drop-set-lt, arith}
 use Rattle.std.proofs.Common.{ltb-true, leb-true, le-leb}
 use Rattle.std.proofs.Math.Decide.{dec_lt}
 use Rattle.std.proofs.lemmas.Bool.{eqb-false, not-true}
 use Rattle.base.proofs.laws.Bools.{bool2}
-use Rattle.base.specs.Sum.{sum}
 use Rattle.min_cut.specs.Cut.{Side, crossing, cut_value, Within}
 use Rattle.base.specs.Basics.{at}
 use Rattle.base.proofs.laws.BlankLaws.{blank_above}
@@ -55,41 +54,20 @@ module _ (net : Network) (e : network_fits net ≡ true) where
 crossing_le : (c : ℕ) (x y : Bool) → crossing x y c ≤ c
 crossing_le c = bool2 _ (omega arith)
 
--- the value of a side by the links before k, as a loop over the links has it
-unfoldable pub value_before : Network → Side → ℕ → ℕ
-value_before net X k = sum k (λ i. crossing (X (at net.a i)) (X (at net.b i)) (at net.capacity i))
-
-module _ (net : Network) (X : Side) where
-  pub value_none : value_before net X 0 ≡ 0
-  unfolding value_before sum
-  value_none = refl
-
-  pub value_more : (k : ℕ)
-      → value_before net X (k + 1) ≡ value_before net X k + crossing (X (at net.a k)) (X (at net.b k)) (at net.capacity k)
-  unfolding value_before sum
-  value_more k = rw add-one
-
-  pub value_all : value_before net X net.links ≡ value_of net X
-  unfolding value_before cut_value
-  value_all = refl
-
-  pub value_before_le : network_fits net ≡ true → (k : ℕ) → k ≤ net.links → value_before net X k ≤ max_value
-  unfolding value_before
-  value_before_le e k l =
-      omega (
-        arith,
-        links_le net e,
-        sum_most k max_capacity (λ i. crossing (X (at net.a i)) (X (at net.b i)) (at net.capacity i))
-            (λ i li. omega (
-              arith,
-              capacity_le net e i (omega arith),
-              crossing_le (at net.capacity i) (X (at net.a i)) (X (at net.b i)),
-            )),
-      )
-
 -- no cut value is above the limit of values
 pub value_le : (net : Network) → network_fits net ≡ true → (X : Side) → value_of net X ≤ max_value
-value_le net e X = rw (value_all net X) at (value_before_le net X e net.links (omega arith))
+unfolding cut_value
+value_le net e X =
+    omega (
+      arith,
+      links_le net e,
+      sum_most net.links max_capacity (λ i. crossing (X (at net.a i)) (X (at net.b i)) (at net.capacity i))
+          (λ i l. omega (
+            arith,
+            capacity_le net e i l,
+            crossing_le (at net.capacity i) (X (at net.a i)) (X (at net.b i)),
+          )),
+    )
 
 -- one capacity is changed
 module _ (net : Network) (k c : ℕ) (kl : k < net.links) (cl : c ≤ max_capacity) where

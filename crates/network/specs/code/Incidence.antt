@@ -5,20 +5,22 @@ use Rattle.min_cut.specs.Cut.{Net}
 use Rattle.min_cut.specs.code.Arcs.{tail, tip}
 use Rattle.base.specs.Basics.{at, pick}
 use Rattle.network.specs.Network.{graph}
+use Rattle.network.specs.code.ArcLinks.{entry_at}
 use Rattle.network.specs.declared.Network.{Network}
+use Rattle.network.specs.declared.arc_link.ArcLink.{ArcLink}
 
 -- an arc below j whose number is one less than x leaves u, unless x is 0
 pub record Leaves (net : Network) (u j x : ℕ) : Type 0 where
   pub under : x ≤ j
   pub from : 0 < x → tail (graph net) (x - 1) ≡ u
 
--- the chains of the arcs below j: `first` at u is one more than the last arc that leaves u, `next` at e one more than
--- the last arc before e with e's tail, 0 where there is none; `to` at e is where arc e leads
-pub record Chains (net : Network) (j : ℕ) (first next to : List ℕ) : Type 0 where
-  pub first_leaves : (u : ℕ) → u < net.nodes → Leaves net u j (at first u)
-  pub first_last : (e : ℕ) → e < j → e < at first (tail (graph net) e)
-  pub next_leaves : (e : ℕ) → e < j → Leaves net (tail (graph net) e) e (at next e)
-  pub next_last : (e i : ℕ) → e < j → i < e → tail (graph net) i ≡ tail (graph net) e → i < at next e
+-- the chains of the arcs below j: `first` at u is the last arc that leaves u, `next` at e the last arc before e with
+-- e's tail, or none; `to` at e is where arc e leads
+pub record Chains (net : Network) (j : ℕ) (first next : List ArcLink) (to : List ℕ) : Type 0 where
+  pub first_leaves : (u : ℕ) → u < net.nodes → Leaves net u j (entry_at first u)
+  pub first_last : (e : ℕ) → e < j → e < entry_at first (tail (graph net) e)
+  pub next_leaves : (e : ℕ) → e < j → Leaves net (tail (graph net) e) e (entry_at next e)
+  pub next_last : (e i : ℕ) → e < j → i < e → tail (graph net) i ≡ tail (graph net) e → i < entry_at next e
   pub leads : (e : ℕ) → e < j → at to e ≡ tip (graph net) e
 
 -- the arcs below j that leave u, in falling order

@@ -1,5 +1,5 @@
 -- The links of a file in the steps of the code: the loop that reads one after the other, and the first that is refused.
-use Rattle.std.specs.Prelude.{ℕ, zero, suc, ◌+◌, ◌≤◌, ◌<◌, ◌≡◌, ◌≢◌, List, length}
+use Rattle.std.specs.Prelude.{ℕ, zero, suc, ◌+◌, ◌≤◌, ◌<◌, ◌≡◌, ◌≢◌, List, set}
 use Rattle.std.proofs.Common.{refl, sym, ap, ◌∙◌, arith, add-one}
 use Rattle.std.proofs.Math.Decide.{ℕ_discrete}
 use Rattle.base.specs.Checks.{accepted}
@@ -9,7 +9,6 @@ use Rattle.network.specs.declared.refusals.Refusal.{Refusal}
 use Rattle.network_file.specs.Reading.{no_link, link_at, stopped, going, unread, with_link, read_link, after, read_links}
 use Rattle.network_file.specs.Reading.{Link, Progress}
 use Rattle.network.proofs.laws.RefusalLaws.{refusal_some}
-use Rattle.network_file.proofs.laws.ReadingSteps.{link_within_lem}
 
 -- ---- a refusal stays
 module _ (third : ℕ → ℕ) (s : List ℕ) (r : Progress) (e place k : ℕ) (h : read_links third s k r ≡ stopped (suc e) place) where
@@ -26,20 +25,14 @@ module _ (third : ℕ → ℕ) (s : List ℕ) (r : Progress) (e place k : ℕ) (
 -- ---- the loop: k links are read into the network
 pub record LinksRead (third : ℕ → ℕ) (s : List ℕ) (n m place : ℕ) (net : Network) (next k : ℕ) : Type 0 where
   pub some : k ≤ m
-  pub within : next ≤ length s
   pub nodes : net.nodes ≡ n
   pub is : read_links third s k (going place (unread n m)) ≡ going next net
 
-pub none_read : (third : ℕ → ℕ) (s : List ℕ) (n m place : ℕ) → place ≤ length s → LinksRead third s n m place (unread n m) place 0
+pub none_read : (third : ℕ → ℕ) (s : List ℕ) (n m place : ℕ) → LinksRead third s n m place (unread n m) place 0
 unfolding read_links
-none_read third s n m place l = record { some = omega arith; within = l; nodes = refl; is = refl }
+none_read third s n m place = record { some = omega arith; nodes = refl; is = refl }
 
 module _ {third : ℕ → ℕ} {s : List ℕ} {n m place : ℕ} {net : Network} {next k : ℕ} (h : LinksRead third s n m place net next k) where
-  pub all_links : m ≤ k → going next net ≡ read_links third s m (going place (unread n m))
-  all_links l =
-      let q : k ≡ m = omega (arith, h.some) in
-      sym (ap (λ (j : ℕ). read_links third s j (going place (unread n m))) (sym q) ∙ h.is)
-
   by_link : Link → Progress
   by_link l = accepted l.number (going l.place (with_link net k l.a l.b l.capacity)) (λ e. stopped e l.place)
 
@@ -50,14 +43,24 @@ module _ {third : ℕ → ℕ} {s : List ℕ} {n m place : ℕ} {net : Network} 
         ap (λ (p : Progress). after p (read_link third s k)) h.is
         ∙ ap (λ (j : ℕ). by_link (link_at third s next j)) h.nodes ∙ sym (ap by_link link_is)
 
-  module _ (km : k < m) (a b c u : ℕ)
+  module _ (km : k < m) (new : Network) (a b c u : ℕ)
+      (nodes_is : new.nodes ≡ net.nodes) (links_is : new.links ≡ net.links)
+      (a_is : new.a ≡ set net.a k a) (b_is : new.b ≡ set net.b k b) (capacity_is : new.capacity ≡ set net.capacity k c)
       (link_is : record { number = 0; place = u; a = a; b = b; capacity = c } ≡ link_at third s next n) where
-    pub one_more : LinksRead third s n m place (with_link net k a b c) u (k + 1)
+    new_is : with_link net k a b c ≡ new
+    new_is i = record {
+      nodes = sym nodes_is i;
+      links = sym links_is i;
+      a = sym a_is i;
+      b = sym b_is i;
+      capacity = sym capacity_is i;
+    }
+
+    pub one_more : LinksRead third s n m place new u (k + 1)
     unfolding by_link
     one_more =
-        let place_is = ap (λ (l : Link). l.place) link_is in
-        let fits : u ≤ length s = omega (arith, link_within_lem third s next n h.within) in
-        record { some = omega arith; within = fits; nodes = h.nodes; is = rw add-one (link_next km _ link_is) }
+        let is = link_next km _ link_is ∙ ap (going u) new_is in
+        record { some = omega arith; nodes = nodes_is ∙ h.nodes; is = rw add-one is }
 
   pub one_refused : k < m → (r : Refusal) (u : ℕ) → no_link (refusal_number r) u ≡ link_at third s next n
       → stopped (refusal_number r) u ≡ read_links third s m (going place (unread n m))

@@ -13,9 +13,8 @@ use Rattle.network.specs.declared.refusals.Refusal.{Refusal}
 use Rattle.network.proofs.laws.RefusalLaws.{refusal_some}
 use Rattle.network_file.specs.Number.{Number, Value, Refused, read_number, refusal_in, value_in, size_in}
 use Rattle.network_file.specs.Reading.{nodes_row, links_row, end_row, other_end_row, no_number, a_number, taken, taking, no_link, link_at}
-use Rattle.network_file.specs.Reading.{stopped, going, unread, after, read_links, ended, read_all, read_by}
-use Rattle.network_file.specs.Reading.{Taken, Link, Progress, Reading}
-use Rattle.network_file.specs.code.Parts.{as_progress, as_read}
+use Rattle.network_file.specs.Reading.{stopped, going, unread, after, read_links, ended, read_all}
+use Rattle.network_file.specs.Reading.{Taken, Link, Progress}
 use Rattle.network_file.specs.declared.Fault.{Fault}
 use Rattle.network_file.proofs.laws.NumberLaws.{Seen, sees_one, sees_two, sees_three, sees_value, seen, size_within, refused_value}
 
@@ -63,16 +62,16 @@ module _ (s : List ℕ) (place : ℕ) where
       let z : size_in (read_number (drop place s)) ≡ size = ap size_in q in
       omega (arith, length-drop place s)
 
--- the ways of it: a stop at its place; or a value that passes its row, and a place that is not past the end
+-- the ways of it: a stop at its place; or a value that passes its row
 data Ways (s : List ℕ) (place : ℕ) (row : ℕ → ℕ) : Taken → Type 0 where
   stops : {e : ℕ} → Ways s place row (no_number (suc e) place)
-  goes : {v next : ℕ} → row v ≡ 0 → (place ≤ length s → next ≤ length s) → Ways s place row (a_number v next)
+  goes : {v next : ℕ} → row v ≡ 0 → Ways s place row (a_number v next)
 
 module _ (s : List ℕ) (place : ℕ) (row : ℕ → ℕ) where
-  by_row : (v size e : ℕ) → row v ≡ e → size ≤ length (drop place s)
+  by_row : (v size e : ℕ) → row v ≡ e
       → Ways s place row (accepted e (a_number v (place + size)) (λ e. no_number e place))
-  by_row v size zero q l = goes {next = place + size} q (λ p. omega (arith, length-drop place s))
-  by_row v size (suc e) q l = stops
+  by_row v size zero q = goes {next = place + size} q
+  by_row v size (suc e) q = stops
 
   by_number : {r : Number} → Seen max_groups (drop place s) r
       → Ways s place row (accepted (check (ltb 0 (refusal_in r)) (refusal_in r) (row (value_in r)))
@@ -80,18 +79,11 @@ module _ (s : List ℕ) (place : ℕ) (row : ℕ → ℕ) where
   by_number (sees_one h) = stops
   by_number (sees_two h) = stops
   by_number (sees_three h) = stops
-  by_number (sees_value {v} {size} g l) = by_row v size (row v) refl (size_within g)
+  by_number (sees_value {v} {size} g l) = by_row v size (row v) refl
 
   ways : Ways s place row (taken s place row)
   unfolding taken read_number
   ways = by_number (seen max_groups (drop place s))
-
-  pub behind : place ≤ length s → (t : Taken) → t ≡ taken s place row → t.next ≤ length s
-  behind l t e = subst (λ (u : Taken). u.next ≤ length s) (sym e) (go ways)
-    where
-      go : {u : Taken} → Ways s place row u → u.next ≤ length s
-      go stops = l
-      go (goes z h) = h l
 
 -- ---- of an equal file, and from its first byte
 pub in_file : (place : ℕ) (row : ℕ → ℕ) {s s' : List ℕ} {t : Taken} → s' ≡ s → t ≡ taken s' place row → t ≡ taken s place row
@@ -132,14 +124,14 @@ module _ (s : List ℕ) (place : ℕ) (row : ℕ → ℕ) where
     where
       go : {t : Taken} → Ways s place row t → t.number ≡ 0 → row t.value ≡ 0
       go stops e = absurd (omega arith)
-      go (goes z l) e = z
+      go (goes z) e = z
 
   stops_there : (t : Taken) → t ≡ taken s place row → t.number ≢ 0 → t.next ≡ place
   stops_there t h = subst (λ (t : Taken). t.number ≢ 0 → t.next ≡ place) (sym h) (go (ways s place row))
     where
       go : {t : Taken} → Ways s place row t → t.number ≢ 0 → t.next ≡ place
       go stops n = refl
-      go (goes z l) n = absurd (n refl)
+      go (goes z) n = absurd (n refl)
 
   module _ {A : Type 0} (stop next : ℕ → ℕ → A) where
     on : Taken → A
@@ -155,14 +147,6 @@ module _ (s : List ℕ) (place : ℕ) (row : ℕ → ℕ) where
     stops_at r q h =
         let there : q ≡ place = stops_there (no_number (refusal_number r) q) h (refusal_some r) in
         ap (stop (refusal_number r)) there ∙ sym (refused_by (refusal_number r) (next 0 q) (λ e. stop e place) (refusal_some r)) ∙ ap on h
-
-    by_ways : (P : A → Type 0) → ((e : ℕ) → P (stop (suc e) place))
-        → ((v q : ℕ) → (place ≤ length s → q ≤ length s) → P (next v q)) → P (taking s place row stop next)
-    by_ways P stopped passed = go (ways s place row)
-      where
-        go : {t : Taken} → Ways s place row t → P (accepted t.number (next t.value t.next) (λ e. stop e place))
-        go (stops {e}) = stopped e
-        go (goes {v} {next} z h) = passed v next h
 
 -- ---- what has passed is within its limit
 nodes_row_lem : (v : ℕ) → nodes_row v ≡ 0 → v ≤ max_nodes
@@ -222,16 +206,6 @@ module _ (third : ℕ → ℕ) (s : List ℕ) (place n : ℕ) where
       pub link_taken : (c u : ℕ) → a_number c u ≡ taken s q third → last a b c u ≡ link_at third s place n
       link_taken c u h = goes_on s q third no_link (last a b) c u h ∙ on_b
 
-  -- it does not reach past the end
-  pub link_within_lem : place ≤ length s → (link_at third s place n).place ≤ length s
-  unfolding link_at
-  link_within_lem l =
-      let P : Link → Type 0 = λ r. r.place ≤ length s in
-      by_ways s place (end_row n) no_link from_b P (λ e. l)
-      λ a p hp. by_ways s p (other_end_row n a) no_link (from_c a) P (λ e. hp l)
-      λ b q hq. by_ways s q third no_link (last a b) P (λ e. hq (hp l))
-      λ c u hu. hu (hq (hp l))
-
 -- ---- the file, by n, m and the links that were read
 module _ (third : ℕ → ℕ) (s : List ℕ) where
   abbrev links_on : ℕ → ℕ → ℕ → Progress
@@ -271,15 +245,3 @@ module _ (third : ℕ → ℕ) (s : List ℕ) where
 
         pub all_done : length s ≤ u → going u net ≡ read_all third s
         all_done l = let h = on_m (going u net) net_is in rw (le-ltb u (length s) l) at h
-
--- ---- the reply
-module _ (third : ℕ → ℕ) (s : List ℕ) where
-  as_reading : Progress → Reading
-  as_reading r = record { number = r.number; place = accepted r.number 0 (λ e. r.place); network = r.network }
-
-  pub reads_all : (r : Result Network Fault) (place : ℕ) → as_progress place r ≡ read_all third s → as_read r ≡ read_by third s
-  unfolding as_reading
-  reads_all (Ok net) place h = ap as_reading h
-  reads_all (Err f) place h =
-      ap (λ (place : ℕ). record { number = refusal_number f.refusal; place = place; network = no_network })
-      (sym (refused_by (refusal_number f.refusal) 0 (λ e. f.place) (refusal_some f.refusal))) ∙ ap as_reading h

@@ -1,19 +1,24 @@
 -- Writing in the steps of the code: numbers and links, one behind the other.
 use Rattle.std.specs.Prelude.{ℕ, zero, suc, ◌+◌, ◌≤◌, ◌<◌, ◌≡◌, List, [], ◌++◌, length}
-use Rattle.std.proofs.Common.{refl, sym, ap, ap₂, subst, ◌∙◌, arith, lt-ltb, le-ltb, add-one, length-append}
+use Rattle.std.proofs.Common.{refl, ap, ap₂, ◌∙◌, arith, lt-ltb, le-ltb, add-one, length-append}
 use Rattle.std.proofs.lemmas.List.Edits.{sets}
 use Rattle.std.proofs.Math.Decide.{ℕ_discrete}
-use Rattle.std.proofs.Math.Seq.{length-sets}
+use Rattle.std.specs.List.{sum_by}
 use Rattle.base.specs.Basics.{at}
+use Rattle.base.specs.Sum.{sum}
+use Rattle.network.specs.code.Links.{IsLink}
 use Rattle.network.specs.declared.Network.{Network}
+use Rattle.network.specs.declared.link.Link.{Link}
 use Rattle.network.proofs.laws.NetworkLaws.{nodes_le, links_le}
+use Rattle.network.proofs.laws.EachLink.{links_of, sum_links}
 use Rattle.network_file.specs.Number.{number_bytes}
 use Rattle.network_file.specs.Writing.{bytes_of_link, link_bytes, file_of, file_write_of, file_written_to}
 use Rattle.network_file.specs.Writing.{FileWritten}
 use Rattle.network_file.specs.code.Writers.{HasRoom, Wrote}
 use Rattle.network_file.specs.declared.writer.Writer.{Writer}
 use Rattle.network_file.proofs.laws.LengthLaws.{file_most}
-use Rattle.base.proofs.laws.ListLaws.{sets_append, three_long}
+use Rattle.base.proofs.laws.ListLaws.{three_long}
+use Rattle.base.proofs.laws.PutsLaws.{puts_length, puts_none, puts_then}
 
 -- ---- what lengths are within
 pub ruleset limits = (nodes_le, links_le)
@@ -23,14 +28,19 @@ abbrev pub link_of : Network → ℕ → List ℕ
 link_of net k = bytes_of_link (at net.a k) (at net.b k) (at net.capacity k)
 
 module _ (net : Network) where
-  -- a link that was read by its number
-  pub link_read : (k : ℕ) {a b capacity : ℕ} → a ≡ at net.a k → b ≡ at net.b k → capacity ≡ at net.capacity k
-      → bytes_of_link a b capacity ≡ link_of net k
-  link_read k a b capacity = rw (a, b, capacity) refl
+  -- a link by itself
+  pub link_read : {k : ℕ} {l : Link} → IsLink net k l → bytes_of_link l.a l.b l.capacity ≡ link_of net k
+  link_read h = rw h.same refl
 
-  pub links_more : (k : ℕ) → length (link_bytes net k) + length (link_of net k) ≡ length (link_bytes net (k + 1))
-  unfolding link_bytes
-  links_more k = rw add-one (sym (length-append (link_bytes net k) (link_of net k)))
+  lengths : (k : ℕ) → sum k (λ i. length (link_of net i)) ≡ length (link_bytes net k)
+  unfolding link_bytes sum
+  lengths zero = refl
+  lengths (suc k) = omega (arith, lengths k, length-append (link_bytes net k) (link_of net k))
+
+  -- how many bytes the links have, added up
+  pub links_length : sum_by (λ l. length (bytes_of_link l.a l.b l.capacity)) (links_of net)
+      ≡ length (link_bytes net net.links)
+  links_length = sum_links net (λ l. length (bytes_of_link l.a l.b l.capacity)) ∙ lengths net.links
 
   pub links_up : (m k : ℕ) → k < m → length (link_bytes net k) + length (link_of net k) ≤ length (link_bytes net m)
   unfolding link_bytes
@@ -44,27 +54,17 @@ module _ (net : Network) where
 
 -- ---- one run of bytes behind another
 pub none_wrote : (w : Writer) → Wrote w w []
-none_wrote w = record { buffer = refl; place = omega arith; out = refl }
-
-pub same_size : {u v : Writer} {xs : List ℕ} → Wrote u v xs → length v.out.now ≡ length u.out.now
-same_size {u} {v} {xs} h = ap length h.out ∙ length-sets u.out.now u.place xs
+none_wrote w = record { same = refl; puts = puts_none w.out.now w.place }
 
 pub wrote_more : {u v w : Writer} {xs ys : List ℕ} → Wrote u v xs → Wrote v w ys → Wrote u w (xs ++ ys)
-wrote_more {u} {v} {w} {xs} {ys} h g =
-    record {
-      buffer = g.buffer ∙ h.buffer;
-      place = omega (arith, h.place, g.place, length-append xs ys);
-      out =
-          g.out ∙ ap (λ (l : List ℕ). sets l v.place ys) h.out
-          ∙ ap (λ (place : ℕ). sets (sets u.out.now u.place xs) place ys) h.place ∙ sets_append xs ys u.out.now u.place;
-    }
+wrote_more h g = record { same = g.same ∙ h.same; puts = puts_then h.puts g.puts }
 
 -- the room of the later run is left behind the first
-pub room_behind : {u v : Writer} {xs ys : List ℕ} → Wrote u v xs → HasRoom u (xs ++ ys) → HasRoom v ys
-room_behind {u} {v} {xs} {ys} h r = record { room = omega (arith, r.room, h.place, same_size h, length-append xs ys) }
+pub room_behind : {u v : Writer} {xs : List ℕ} (ys : List ℕ) → Wrote u v xs → HasRoom u (xs ++ ys) → HasRoom v ys
+room_behind {xs = xs} ys h r = omega (arith, r, h.puts.next_is, puts_length h.puts, length-append xs ys)
 
-pub room_first : {u : Writer} (xs ys : List ℕ) → HasRoom u (xs ++ ys) → HasRoom u xs
-room_first xs ys r = record { room = omega (arith, r.room, length-append xs ys) }
+pub room_first : (place size : ℕ) (xs ys : List ℕ) → place + length (xs ++ ys) ≤ size → place + length xs ≤ size
+room_first place size xs ys r = omega (arith, r, length-append xs ys)
 
 -- ---- the loop: k links are written
 pub record LinksWritten (net : Network) (first now : Writer) (k : ℕ) : Type 0 where
@@ -75,20 +75,13 @@ pub none_written : (net : Network) (w : Writer) → LinksWritten net w w 0
 unfolding link_bytes
 none_written net w = record { some = omega arith; wrote = none_wrote w }
 
-module _ {net : Network} {first now : Writer} {k : ℕ} (h : LinksWritten net first now k) where
-  pub all_written : net.links ≤ k → Wrote first now (link_bytes net net.links)
-  all_written l =
-      let e : k ≡ net.links = omega (arith, h.some) in
-      subst (λ (j : ℕ). Wrote first now (link_bytes net j)) e h.wrote
+module _ {net : Network} {first now : Writer} {k : ℕ} (h : LinksWritten net first now k) (l : k < net.links) where
+  pub has_places : HasRoom first (link_bytes net net.links) → HasRoom now (link_of net k)
+  has_places r = omega (arith, r, h.wrote.puts.next_is, puts_length h.wrote.puts, links_up net net.links k l)
 
-  module _ (l : k < net.links) where
-    pub has_places : HasRoom first (link_bytes net net.links) → HasRoom now (link_of net k)
-    has_places r =
-        record { room = omega (arith, r.room, h.wrote.place, same_size h.wrote, links_up net net.links k l) }
-
-    pub one_written : (behind : Writer) → Wrote now behind (link_of net k) → LinksWritten net first behind (k + 1)
-    unfolding link_bytes
-    one_written behind g = record { some = omega arith; wrote = rw add-one (wrote_more h.wrote g) }
+  pub one_written : (behind : Writer) → Wrote now behind (link_of net k) → LinksWritten net first behind (k + 1)
+  unfolding link_bytes
+  one_written behind g = record { some = omega arith; wrote = rw add-one (wrote_more h.wrote g) }
 
 -- ---- the file
 abbrev written : ℕ → ℕ → FileWritten
@@ -100,10 +93,10 @@ module _ (net : Network) where
   unfolding file_of
   file_long = three_long (number_bytes net.nodes) (number_bytes net.links) (link_bytes net net.links)
 
-  pub file_room : (w : Writer) (size : ℕ) → w.place ≡ 0 → size ≡ length (file_of net) → size ≤ length w.out.now
-      → HasRoom w (number_bytes net.nodes ++ (number_bytes net.links ++ link_bytes net net.links))
+  pub file_room : {size room : ℕ} → size ≡ length (file_of net) → size ≤ room
+      → 0 + length (number_bytes net.nodes ++ (number_bytes net.links ++ link_bytes net net.links)) ≤ room
   unfolding file_of
-  file_room w size z e h = record { room = omega arith }
+  file_room e h = omega arith
 
   -- too short a buffer is refused and stays; any other holds the file
   pub refuses_short : (l : List ℕ) → length l < length (file_of net)
@@ -121,8 +114,8 @@ module _ (net : Network) where
       let fits : length (file_of net) ≤ length l = omega arith in
       rw (le-ltb (length l) (length (file_of net)) fits) (
         ap (written 0) q,
-        all.out ∙ ap₂ (λ (l : List ℕ) (place : ℕ). sets l place (file_of net)) e z,
-        all.buffer,
+        all.puts.after_is ∙ ap₂ (λ (l : List ℕ) (place : ℕ). sets l place (file_of net)) e z,
+        all.same,
       )
 
 -- what a file's length is, and within

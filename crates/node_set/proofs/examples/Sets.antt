@@ -1,10 +1,11 @@
--- Each definition of Set.antt at small sets: 13 is the set of nodes 0, 2 and 3, 7 that of 0, 1 and 2.
-use Rattle.std.specs.Prelude.{◌≡◌, refl, true, false, ℕ, zero, suc, ◌<◌}
+-- Each definition of Set.antt and Members.antt at small sets: 13 is the set of nodes 0, 2 and 3, 7 that of 0, 1 and 2.
+use Rattle.std.specs.Prelude.{◌≡◌, refl, true, false, ℕ, zero, suc, ◌<◌, None, Some}
 use Rattle.std.proofs.Common.{arith}
 use Rattle.base.specs.Sum.{sum}
 use Rattle.base.specs.Word.{holds}
 use Rattle.node_set.specs.Set.{empty, single, added, removed, union, intersection, difference, all_below}
 use Rattle.node_set.specs.Set.{complement_in, size, included, Lowest}
+use Rattle.node_set.specs.code.Members.{TakesLowest}
 
 none_one : (empty ≡ 0) × (single 0 ≡ 1) × (single 3 ≡ 8) × (single 63 ≡ 9223372036854775808)
 unfolding empty single
@@ -49,3 +50,12 @@ lowest_of_12 = record { here = refl; none = none; small = omega arith }
     none zero l = refl
     none (suc zero) l = refl
     none (suc (suc j)) l = absurd (omega arith)
+
+-- of nodes 2 and 3 the first comes, and node 3 is left; of no nodes none comes
+taken : TakesLowest (record { rest = 12 }) (Some 2) (record { rest = 8 })
+unfolding removed
+taken = (lowest_of_12, refl)
+
+none_taken : TakesLowest (record { rest = 0 }) None (record { rest = 0 })
+unfolding empty
+none_taken = (refl, refl)

@@ -9,8 +9,9 @@ use Rattle.base.proofs.laws.SumLaws.{sum_at, sum_zero, sum_first}
 use Rattle.base.specs.Sum.{sum}
 use Rattle.base.specs.Word.{bit, holds}
 use Rattle.base.proofs.laws.WordLaws.{holds_out, bit_le, low_digit}
-use Rattle.node_set.specs.Set.{width, empty, added, complement_in, size, Lowest, Counted}
-use Rattle.node_set.proofs.theorems.Members.{holds_empty, added_same, added_other, holds_complement_in}
+use Rattle.node_set.specs.Set.{width, empty, added, removed, complement_in, size, Lowest, Counted}
+use Rattle.node_set.proofs.theorems.Members.{holds_empty, added_same, added_other, removed_same, removed_other}
+use Rattle.node_set.proofs.theorems.Members.{holds_complement_in}
 
 pub size_ones : (n x : ℕ) → x < 2 ^ n → size n x ≡ ones x
 unfolding size sum holds ones_in ones
@@ -40,6 +41,11 @@ size_differ n x y i l hy hx other =
 
 pub size_added : (n x i : ℕ) → i < n → holds x i ≡ false → size n (added x i) ≡ size n x + 1
 size_added n x i l h = size_differ n x (added x i) i l (added_same x i) h (added_other x i)
+
+-- each node taken out leaves fewer
+pub size_removed : (n x i : ℕ) → i < n → holds x i ≡ true → size n (removed x i) < size n x
+size_removed n x i l h =
+    omega (arith, size_differ n (removed x i) x i l h (removed_same x i) (λ k d. sym (removed_other x i k d)))
 
 -- ---- the lowest node
 -- a node of a set of nodes below n is below n

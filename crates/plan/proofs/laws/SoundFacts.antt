@@ -1,5 +1,5 @@
 -- What soundness says of the parts of a plan, as the layers below ask it.
-use Rattle.std.proofs.Common.{◌≡◌, Bool, true, not, ℕ, ◌≤◌, ◌<◌, sym, ap, ◌∙◌, arith, ltb-true, leb-true, ltb, leb}
+use Rattle.std.proofs.Common.{◌≡◌, true, ℕ, ◌≤◌, ◌<◌, arith, ltb-true, leb-true, ltb, leb}
 use Rattle.std.proofs.Math.Decide.{dec_lt}
 use Rattle.base.specs.Basics.{at}
 use Rattle.base.proofs.laws.TestLaws.{all_at, shown, head, rest}
@@ -24,10 +24,6 @@ module _ (n : ℕ) (tree : Tree) (e : tree_fits n tree ≡ true) where
       go : Dec (i < n) → at tree.weight i ≤ max_value
       go (yes l) = leb-true _ _ (all_at n (λ i. leb (at tree.weight i) max_value) (head (rest (rest (rest (shown _ e))))) i l)
       go (no l) = omega (arith, blank_above n tree.weight (head (rest (rest (rest (rest (rest (rest (shown _ e)))))))) i (omega arith))
-
--- row 19 of a plan whose soundness x was answered with r
-pub sound_row : {x r b : Bool} → r ≡ x → not r ≡ b → not x ≡ b
-sound_row e n = ap not (sym e) ∙ n
 
 module _ (p : Plan) (e : sound p ≡ true) where
   pub sound_network : network_fits p.network ≡ true

@@ -8,9 +8,9 @@ use Rattle.std.proofs.lemmas.Bool.{lt-leb}
 use Rattle.std.specs.List.{list_all, range_with_len}
 use Rattle.std.proofs.lemmas.List.Folds.{list_all_more}
 use Rattle.base.specs.Basics.{at, all, every}
+use Rattle.base.proofs.laws.RangeLaws.{all_in_range}
 use Rattle.base.proofs.laws.TestLaws.{all_at, all_fails}
 use Rattle.network.specs.Limits.{max_nodes}
-use Rattle.network.proofs.laws.LinksLaws.{all_in_range}
 use Rattle.node_set.specs.Set.{all_below}
 use Rattle.cut_tree.specs.code.QueryParts.{Inside}
 use Rattle.cut_tree.specs.LightestEdge.{lightest_edge, equal_edges}

@@ -1,32 +1,28 @@
--- `links_length` meets its contract.
-use Rattle.std.proofs.Common.{◌≡◌, ◌+◌, ◌∙◌, ap, length, arith, rules}
+-- `links_length` meets its contract: what the links have, added up.
+use Rattle.std.proofs.Common.{rules, tests, ℕ, length, arith, ◌∙◌}
+use Rattle.network.specs.declared.link.Link.{Link}
 use Rattle.network.proofs.laws.NetworkLaws.{links_le}
-use Rattle.network_file.specs.Writing.{link_bytes}
+use Rattle.network.proofs.laws.EachLink.{links_sum, links_sum_fits}
+use Rattle.network_file.specs.Writing.{bytes_of_link}
 use Rattle.network_file.proofs.laws.LengthLaws.{links_most}
-use Rattle.network_file.proofs.laws.WritingSteps.{link_of, links_more, link_read}
+use Rattle.network_file.proofs.laws.WritingSteps.{links_length}
 use Rattle.network_file.proofs.writer.links_length.Goals as goal
-use Rattle.network_file.proofs.writer.links_length.Goals.{After-link_length-sum}
 
-pub loop-k-init : goal.loop-k-init
-unfolding link_bytes
-loop-k-init c = search rules
+abbrev long : Link → ℕ
+long l = length (bytes_of_link l.a l.b l.capacity)
 
--- what is added is the length of this link's bytes
-this : (c : After-link_length-sum) → c.link_length-sum.result ≡ length (link_of c.args.net.network c.loop-k.k)
-this c =
-    let r = c.link.ensures in
-    c.link_length-sum.ensures ∙ ap length (link_read c.args.net.network c.loop-k.k r.a r.b r.capacity)
+pub sum-requires-clause-fits : goal.sum-requires-clause-fits
+sum-requires-clause-fits c =
+    let net = c.args.net.network in
+    let fits = c.args.net.fits in
+    let each = c.each_link.ensures in
+    let on = c.map.ensures in
+    links_sum_fits _ long c.args.net each.net each.come on.source on.closure (λ l r q k. search (rules, tests))
+    18446744073709551616 (omega (arith, links_length net, links_le net fits, links_most net fits net.links (omega arith)))
 
-pub overflow_add-sum : goal.overflow_add-sum
-overflow_add-sum c =
-    omega (
-      arith,
-      this (goal.at.overflow_add-sum c).After-link_length-sum,
-      links_le c.args.net.network c.args.net.fits,
-      links_more c.args.net.network c.loop-k.k,
-      links_most c.args.net.network c.args.net.fits (c.loop-k.k + 1) (omega arith),
-    )
-
-pub loop-k-preserved : goal.loop-k-preserved
-loop-k-preserved c =
-    omega (arith, this (goal.at.loop-k-preserved c).After-link_length-sum, links_more c.args.net.network c.loop-k.k)
+pub returns : goal.returns
+returns c =
+    let each = c.each_link.ensures in
+    let on = c.map.ensures in
+    links_sum _ long c.args.net each.net each.come on.source on.closure (λ l r q k. search (rules, tests)) _ c.sum.ensures.ran
+    ∙ links_length c.args.net.network

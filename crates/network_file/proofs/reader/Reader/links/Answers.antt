@@ -1,16 +1,12 @@
 -- `links` meets its contract.
-use Rattle.std.proofs.Common.{refl, sym, ap, ◌∙◌, length, arith}
+use Rattle.std.proofs.Common.{refl, sym, ap, ◌∙◌}
 use Rattle.network_file.specs.code.Parts.{as_link, as_progress}
 use Rattle.network_file.proofs.laws.ReadingSteps.{exit_of, link_in_file}
-use Rattle.network_file.proofs.laws.LinksSteps.{none_read, all_links, one_more, one_refused}
+use Rattle.network_file.proofs.laws.LinksSteps.{none_read, one_more, one_refused}
 use Rattle.network_file.proofs.reader.Reader.links.Goals as goal
 
 pub loop-k-init : goal.loop-k-init
-loop-k-init c = record { same = refl; read = none_read _ _ _ _ _ c.requires.0 }
-
-pub link-requires : goal.link-requires
-link-requires c =
-    let e = ap length c.loop-k.invariant.same in (omega (arith, c.loop-k.invariant.read.within), c.requires.1)
+loop-k-init c = record { same = refl; read = none_read _ _ _ _ _ }
 
 pub returns-in_err-link : goal.returns-in_err-link
 returns-in_err-link c =
@@ -25,11 +21,8 @@ returns-in_err-link c =
 pub loop-k-preserved : goal.loop-k-preserved
 loop-k-preserved c =
     let link_is = sym (ap (as_link _) c.in_ok-link.was) ∙ link_in_file _ _ _ c.loop-k.invariant.same c.link.ensures.value in
+    let e = c.set_link.ensures in
     record {
       same = c.link.ensures.file ∙ c.loop-k.invariant.same;
-      read = one_more c.loop-k.invariant.read c.loop-k-test.true _ _ _ _ link_is;
+      read = one_more c.loop-k.invariant.read c.loop-k-test.true _ _ _ _ _ e.nodes e.links e.a e.b e.capacity link_is;
     }
-
-pub returns : goal.returns
-returns c =
-    record { file = c.loop-k.invariant.same; value = all_links c.loop-k.invariant.read c.loop-k-test.false }

@@ -1,7 +1,6 @@
 -- `plan::NodeCount::each_step_fits` meets its contract: node 0's step comes before the others'.
-use Rattle.std.proofs.Common.{rules, arith, refl, sym, ◌-◌, ◌∙◌}
-use Rattle.std.proofs.lemmas.Iterator.{YieldsList-from_range}
-use Rattle.std.proofs.lemmas.Iterator.Search.{all_from_yields_List}
+use Rattle.std.proofs.Common.{rules, arith, sym, ◌-◌, ◌∙◌}
+use Rattle.base.proofs.laws.RangeLaws.{all_from_range}
 use Rattle.plan.proofs.laws.SoundLaws.{step_test, steps_from_one, root_step_fails}
 use Rattle.plan.proofs.node_count.NodeCount.each_step_fits.Goals as goal
 
@@ -9,8 +8,7 @@ pub returns-then-root_step_within : goal.returns-then-root_step_within
 returns-then-root_step_within c =
     let n = c.args.self.count in
     let some = c.args.self.some in
-    all_from_yields_List (step_test n c.args.steps) _ _ _ c.all.ensures.ran (YieldsList-from_range 1 n (n - 1) refl refl)
-    (λ x b q k. search rules)
+    all_from_range (step_test n c.args.steps) 1 n c.all.ensures.ran (λ x b q k. search rules)
     ∙ steps_from_one n c.args.steps (n - 1) (omega (arith, some)) (sym c.root_step_within.ensures ∙ c.if-root_step_within.true)
 
 pub returns-else-root_step_within : goal.returns-else-root_step_within

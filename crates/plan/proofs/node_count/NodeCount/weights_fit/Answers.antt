@@ -1,7 +1,6 @@
 -- `plan::NodeCount::weights_fit` meets its contract: an edge that is none of the tree's settles it, and else the weights do.
-use Rattle.std.proofs.Common.{rules, arith, refl, sym, ◌-◌, ◌∙◌}
-use Rattle.std.proofs.lemmas.Iterator.{YieldsList-from_range}
-use Rattle.std.proofs.lemmas.Iterator.Search.{all_from_yields_List}
+use Rattle.std.proofs.Common.{rules, arith, sym, ◌-◌, ◌∙◌}
+use Rattle.base.proofs.laws.RangeLaws.{all_from_range}
 use Rattle.plan.proofs.laws.WeightLaws.{weight_test, weights_from_one, not_own}
 use Rattle.plan.proofs.node_count.NodeCount.weights_fit.Goals as goal
 
@@ -12,8 +11,7 @@ returns-then-is_edge c =
     let some = c.args.self.some in
     let weight = c.args.weight.now in
     let e = c.args.lightest in
-    all_from_yields_List (weight_test n few weight e) _ _ _ c.all.ensures.ran (YieldsList-from_range 1 n (n - 1) refl refl)
-    (λ x b q k. search rules)
+    all_from_range (weight_test n few weight e) 1 n c.all.ensures.ran (λ x b q k. search rules)
     ∙ weights_from_one n few weight e (n - 1) (omega (arith, some)) c.requires (sym c.is_edge.ensures ∙ c.if-is_edge.true)
 
 pub returns-else-is_edge : goal.returns-else-is_edge

@@ -1,5 +1,0 @@
--- The count that is left falls.
-use Rattle.cut_tree.proofs.Tree.+ancestors.Given as goal
-
-abbrev pub decreases-ancestors : goal.decreases-ancestors
-decreases-ancestors l = l.left

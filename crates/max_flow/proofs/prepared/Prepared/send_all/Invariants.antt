@@ -1,7 +1,0 @@
--- `send_all` raises the total by what each phase sends: it stays that of the flow. There are no more phases than nodes.
-use Rattle.std.proofs.Common.{◌≤◌}
-use Rattle.max_flow.specs.code.Residuals.{Flowing}
-use Rattle.max_flow.proofs.prepared.Prepared.send_all.Given as goal
-
-abbrev pub invariant-loop : goal.invariant-loop
-invariant-loop l = (l.total ≤ l.raised) × Flowing l.self.network l.s l.t l.raised l.flow.residual

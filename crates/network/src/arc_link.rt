@@ -1,0 +1,33 @@
+// An arc, or none, in two bytes.
+ghost use Rattle.std.specs.Prelude.{◌≡◌, ◌<◌};
+ghost use Rattle.network.specs.code.ArcLinks.{arc_of, link_to};
+ghost use Rattle.network.specs.Limits.{max_arcs};
+
+use crate::MAX_ARCS;
+
+// The number of an arc; one that no arc has is none.
+// Kept: a table of these is of fixed memory, and an Option of two bytes takes four here, as it does of a number that is
+// not 0.
+#[derive(Clone, Copy)]
+pub struct ArcLink {
+    pub number: u16,
+}
+
+impl ArcLink {
+    pub const NONE: ArcLink = ArcLink { number: u16::MAX };
+
+    pub fn to(j: usize) -> ArcLink
+        requires { j < max_arcs }
+        ensures { result ≡ link_to j }
+    {
+        ArcLink { number: j as u16 }
+    }
+
+    // the arc, if there is one
+    pub fn arc(self) -> Option<usize>
+        ensures { result ≡ arc_of self }
+    {
+        let j = self.number as usize;
+        if j < MAX_ARCS { Some(j) } else { None }
+    }
+}

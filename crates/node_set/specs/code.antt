@@ -1,0 +1,2 @@
+-- What the contracts and invariants of single functions cite.
+pub mod Members
