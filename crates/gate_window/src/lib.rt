@@ -39,8 +39,8 @@ pub struct WindowReply {
     pub text: [u8; WINDOW_WIDTH],
 }
 
-// Kept: C has three such replies and each is flat: in a `Reply<T>` of a number and a `T` a pair's weight (`PairReply`)
-// would stand at 8 and not at 4; and a trait of replies asks for two functions in place of this one `match`.
+// Kept: a generic reply of a number and a value would serve two of C's three (a pair's weight stands at 4), and needs a
+// trait with two functions in place of this one `match`.
 impl From<Result<[u8; WINDOW_WIDTH], Refusal>> for WindowReply {
     ghost from_gives = { λ r reply. reply ≡ as_reply r };
 

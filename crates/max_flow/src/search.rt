@@ -51,7 +51,8 @@ impl Ends<'_> {
         'search: while i < tree.count {
             let u = tree.node[i] as usize;
             let mut link = arcs.first[u];
-            // Kept: a walk along a chain of arcs; by `successors` such a walk takes longer (flow_hints, `with_room`).
+            // Kept: a walk along a chain of arcs: `successors` asks for the next link before the arc is looked at, and
+            // once more than is needed where the search is left.
             while let Some(j) = link.arc() {
                 link = arcs.next[j];
                 let x = arcs.to[j] as usize;

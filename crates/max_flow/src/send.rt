@@ -27,8 +27,7 @@ struct Load {
 }
 
 // What stays the same while flow is sent on: the network with its arcs, and the sink t.
-// Kept: `Ends` without s; with `Ends` in its place, which the recursion hands on in three words, an opening takes 3 to
-// 4 in 100 longer.
+// Kept: `Ends` without s, which none of the methods below would read.
 #[derive(Clone, Copy)]
 struct Sender<'a> {
     prepared: &'a Prepared<'a>,

@@ -6,8 +6,8 @@ ghost use Rattle.network.specs.Limits.{max_arcs};
 use crate::MAX_ARCS;
 
 // The number of an arc; one that no arc has is none.
-// Kept: a table of these is of fixed memory, and an Option of two bytes takes four here, as it does of a number that is
-// not 0.
+// Kept: the memory is fixed and lies on the caller's stack: with `Option<u16>`, which takes four bytes here, as it does
+// of a number that is not 0, the table of arcs takes 18.4 KB and not 9.2 and `Incidence` 2.8 KB and not 1.7.
 #[derive(Clone, Copy)]
 pub struct ArcLink {
     pub number: u16,

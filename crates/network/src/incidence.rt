@@ -9,8 +9,8 @@ use crate::{ArcLink, MAX_ARCS, MAX_NODES, ValidNetwork};
 
 // first[u] is the last arc that leaves u, and next[e] the last arc before e with e's tail, or none. to[e] is where
 // arc e leads.
-// Kept: the arrays are of fixed memory: a record of next and to takes four bytes and not three (docs/BENCHMARKS.md,
-// "Forms").
+// Kept: whoever tests an arc reads `to` alone, so that one array of records of next and to would be no plainer; and
+// such a record takes four bytes and not three.
 #[derive(Clone, Copy)]
 pub struct Incidence {
     pub first: [ArcLink; MAX_NODES],

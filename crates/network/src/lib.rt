@@ -85,7 +85,14 @@ impl Network {
         requires { self.now.links ≤ max_links }
         ensures { result ≡ all self.now.links (link_fits self.now) }
     {
-        (0..self.links).all(|k| self.link(k).is_within(self.nodes))
+        // Kept: the compiler unrolls this loop, and not the `all` of a range, by which the test that a plan is sound
+        // takes 37 in 100 longer and a pair misses its target (docs/BENCHMARKS.md).
+        for k in 0..self.links {
+            if !self.link(k).is_within(self.nodes) {
+                return false;
+            }
+        }
+        true
     }
 }
 

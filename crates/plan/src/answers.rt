@@ -40,8 +40,8 @@ pub fn headroom(p: Plan, s: usize, t: usize, demand: u32) -> Result<HeadroomFoun
     })
 }
 
-// Kept: C has three such replies and each is flat: in a `Reply<T>` of a number and a `T` a pair's weight (`PairReply`)
-// would stand at 8 and not at 4; and a trait of replies asks for two functions in place of this one `match`.
+// Kept: a generic reply of a number and a value would serve two of C's three (a pair's weight stands at 4), and needs a
+// trait with two functions in place of this one `match`.
 impl From<Result<HeadroomFound, Refusal>> for HeadroomReply {
     ghost from_gives = { λ r reply. reply ≡ as_headroom r };
 

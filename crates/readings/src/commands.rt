@@ -186,6 +186,7 @@ impl<'a> Words<'a> {
 impl Command {
     // The command of a line, behind the first space behind the label and its colon; none where the letter there is none
     // of theirs.
+    // Kept: an arm for each letter is the shortest way to say which command it names.
     pub fn of_line(alloc: Global, line: &[u8]) -> Result<Option<Command>, AllocError> {
         let (_label, behind) = split_once(line, b':');
         let (_between, command) = split_once(behind, b' ');

@@ -21,8 +21,8 @@ fn push_number(file: &mut Vec<u8>, number: usize) -> Result<(), AllocError> {
 }
 
 // The file of a network.
-// Kept: whoever allocates is lent the allocator, beside what it reads: the language has no other way. And this is the
-// library's writing written again, since by it the files are judged.
+// Kept: whoever allocates is lent the allocator; a struct of it and the network would be made for each call and taken
+// apart in it. And this is the library's writing written again, since by it the files are judged.
 pub fn file_of(alloc: Global, net: &Network) -> Result<Vec<u8>, AllocError> {
     let mut file = Vec::new(alloc);
     push_number(&mut file, net.nodes)?;

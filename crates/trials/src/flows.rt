@@ -12,7 +12,8 @@ const LAST_NODE: usize = 9;
 
 const LINKS: usize = 20;
 
-// Kept: whoever allocates is lent the allocator, beside what it reads: the language has no other way.
+// Kept: whoever allocates is lent the allocator; a struct of it and the network would be made for each call and taken
+// apart in it.
 fn flow_right(
     alloc: Global,
     net: ValidNetwork,

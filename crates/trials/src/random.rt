@@ -68,8 +68,8 @@ impl Random {
     }
 
     // A network of at most last + 1 nodes and at most `most` links; of none where it has one node.
-    // Kept: these are constants at each call, so that their limits need no proof there; a struct of both would be made
-    // of them and taken apart here.
+    // Kept: these come from constants, so that their limits need no proof where they are handed in; a struct of both
+    // would be made of them and taken apart here.
     pub fn network(&mut self, last: usize, most: usize) -> Network
         requires { (last < max_nodes) × (most ≤ max_links) }
     {

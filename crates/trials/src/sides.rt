@@ -32,7 +32,8 @@ pub struct Sides {
 }
 
 impl Sides {
-    // Kept: whoever allocates is lent the allocator, beside what it reads: the language has no other way.
+    // Kept: whoever allocates is lent the allocator; a struct of it and the network would be made for each call and
+    // taken apart in it.
     pub fn of(alloc: Global, net: ValidNetwork) -> Result<Sides, AllocError> {
         let n = net.network.nodes;
         let sides = if n > MOST_NODES { 0 } else { 1u64 << n };
