@@ -1,9 +1,9 @@
 // Commands that ask the plan.
-use crate::Session;
+use crate::Run;
 use crate::print::{Found, Text};
 use std::io;
 
-impl<R: Print> Session<'_, R> {
+impl<R: Print> Run<'_, R> {
     // `pair S T`
     pub fn pair(&self, s: usize, t: usize) -> io::Result<()> {
         match plan::pair(self.plan, s, t) {

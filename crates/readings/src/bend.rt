@@ -1,6 +1,6 @@
 // The command `bend FIELD PLACE VALUE`, which sets one number of the plan by hand. Of the field only the first letter
 // counts.
-use crate::Session;
+use crate::Run;
 use network::MAX_LINKS;
 use plan::{MAX_DEPTH, Plan};
 use std::io;
@@ -83,7 +83,7 @@ fn set_at<N: Copy>(numbers: &mut [N], place: usize, value: N) {
     }
 }
 
-impl<R: Print> Session<'_, R> {
+impl<R: Print> Run<'_, R> {
     pub fn bend(&mut self, field: Option<Field>, place: usize, value: u32) -> io::Result<()> {
         if let Some(field) = field {
             field.set(&mut self.plan, place, value);

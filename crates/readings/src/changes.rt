@@ -1,5 +1,5 @@
 // Commands that change the plan.
-use crate::Session;
+use crate::Run;
 use network::Refusal;
 use plan::{Altered, Plan};
 use std::io;
@@ -7,7 +7,7 @@ use std::io;
 // The most turns of `repeat` and `drain`.
 const MOST_TURNS: u32 = 100;
 
-impl<R: Print> Session<'_, R> {
+impl<R: Print> Run<'_, R> {
     // What a change or an undo left: its count, or its refusal, which leaves the plan.
     fn note(&mut self, outcome: Result<Altered, Refusal>) -> io::Result<()> {
         match outcome {

@@ -1,5 +1,5 @@
 // Commands that open a file.
-use crate::Session;
+use crate::Run;
 use network::{MAX_LINKS, MAX_NODES, Network};
 use std::io;
 
@@ -59,7 +59,7 @@ fn many_links(low: u8, high: u8) -> [u8; MANY] {
     file
 }
 
-impl<R: Print> Session<'_, R> {
+impl<R: Print> Run<'_, R> {
     // `open BYTES`: the file that the line gives. Refused, no plan is left.
     pub fn open(&mut self, file: &[u8]) -> io::Result<()> {
         match plan::open(file) {

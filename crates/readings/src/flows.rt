@@ -1,7 +1,7 @@
 // The command `flow S T LENGTH`. Which lawful flow the call gives is free, so what every lawful one of that total has
 // is printed: the balance of each node (what leaves it less what enters it), and how many links carry more than their
 // capacity.
-use crate::Session;
+use crate::Run;
 use network::{MAX_LINKS, Network};
 use std::io;
 
@@ -50,7 +50,7 @@ impl Carrying<'_> {
     }
 }
 
-impl<R: Print> Session<'_, R> {
+impl<R: Print> Run<'_, R> {
     // The call, with a buffer of so many numbers, and of a refused one how many places hold what they held before.
     pub fn flow(&self, s: usize, t: usize, length: usize) -> io::Result<()> {
         let mut room = [BEFORE; PLACES];

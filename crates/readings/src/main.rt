@@ -25,12 +25,12 @@ const MAX_INPUT: u64 = 65536;
 
 // The plan that the lines so far left, and where it is printed what comes of the next.
 #[derive(Drop)]
-pub struct Session<'a, R> {
+pub struct Run<'a, R> {
     pub rt: &'a R,
     pub plan: Plan,
 }
 
-impl<R: Print + AllocGlobal> Session<'_, R> {
+impl<R: Print + AllocGlobal> Run<'_, R> {
     // Does what a command says, on the plan and to it.
     fn obey(&mut self, command: Command) -> io::Result<()> {
         match command {
@@ -85,12 +85,12 @@ impl<R: Print + AllocGlobal> Session<'_, R> {
 fn main(rt: HostRuntime) -> io::Result<()> {
     let mut input = Vec::new(rt.alloc());
     rt.stdin().take(MAX_INPUT).read_to_end(&mut input)?;
-    let mut session = Session {
+    let mut run = Run {
         rt: &rt,
         plan: plan::no_plan(),
     };
     for line in input.split_inclusive(|byte| *byte == b'\n') {
-        session.turn(line.strip_suffix(b"\n").unwrap_or(line))?;
+        run.turn(line.strip_suffix(b"\n").unwrap_or(line))?;
     }
     Ok(())
 }

@@ -1,11 +1,11 @@
 // Commands that show the plan.
-use crate::Session;
+use crate::Run;
 use std::io;
 
-impl<R: Print> Session<'_, R> {
+impl<R: Print> Run<'_, R> {
     // `tree`: each node from 1 on, its parent and its weight.
     pub fn tree(&self) -> io::Result<()> {
-        let Session { rt, plan } = self;
+        let Run { rt, plan } = self;
         let edges = plan.tree.parent.iter().zip(&plan.tree.weight);
         for (node, (parent, weight)) in edges.enumerate().take(plan.network.nodes).skip(1) {
             print!(rt; " ({node} {parent} {weight})")?;
@@ -21,7 +21,7 @@ impl<R: Print> Session<'_, R> {
 
     // `steps`: of each node from 1 on the pivot, the side as a number, and the side's cost.
     pub fn steps(&self) -> io::Result<()> {
-        let Session { rt, plan } = self;
+        let Run { rt, plan } = self;
         let steps = &plan.steps;
         let steps = steps.pivot.iter().zip(&steps.side).zip(&steps.value);
         for ((pivot, side), value) in steps.take(plan.network.nodes).skip(1) {
@@ -32,7 +32,7 @@ impl<R: Print> Session<'_, R> {
 
     // `network`: the capacities in order, and the stack's entries: place, link, capacity before.
     pub fn network(&self) -> io::Result<()> {
-        let Session { rt, plan } = self;
+        let Run { rt, plan } = self;
         print!(rt; " capacities")?;
         for capacity in plan.network.capacity.iter().take(plan.network.links) {
             print!(rt; " {capacity}")?;

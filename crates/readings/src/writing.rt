@@ -1,5 +1,5 @@
 // The commands `write LENGTH` and `again`.
-use crate::Session;
+use crate::Run;
 use std::io;
 
 // The bytes of a buffer for every file, and what each is before.
@@ -10,7 +10,7 @@ const UNWRITTEN: u8 = 0xee;
 // The bytes of the longest buffer that is shown.
 const SHOWN: usize = 24;
 
-impl<R: Print> Session<'_, R> {
+impl<R: Print> Run<'_, R> {
     // `write LENGTH`: the file's length, and of a buffer of at most 24 bytes all that it holds afterwards; before, each
     // is ee.
     pub fn write(&self, length: usize) -> io::Result<()> {
