@@ -8,5 +8,6 @@ pub mod BlankLaws
 pub mod TestLaws
 pub mod RangeLaws
 pub mod ChecksLaws
+pub mod ResultLaws
 pub mod ListLaws
 pub mod PutsLaws

@@ -12,6 +12,7 @@ mod trees; // build and rebuild
 pub use crate::lightest::lightest_edge;
 pub use crate::path::{MAX_CLIMB, check_pair, query, reaches_root};
 pub use crate::trees::{build, rebuild};
+use max_flow::Cut;
 use network::MAX_NODES;
 
 // A cut tree: every node's parent, and the weight of the edge between them. Node 0 has parent 0 and weight 0.
@@ -40,6 +41,13 @@ pub struct Steps {
     pub pivot: [u8; MAX_NODES],
     pub side: [u64; MAX_NODES],
     pub value: [u32; MAX_NODES],
+}
+
+// What is recorded of one step.
+#[derive(Clone, Copy, Debug, PartialEq, Eq)]
+pub struct Recorded {
+    pub pivot: usize,
+    pub cut: Cut,
 }
 
 // A tree, its steps, and how many of the steps were not kept.

@@ -1,10 +1,18 @@
 // The lightest edge of a tree: one pass over the weights.
 ghost use Rattle.std.specs.Prelude.{◌≡◌, ◌<◌, ◌≤◌};
 ghost use Rattle.network.specs.Limits.{max_nodes};
-ghost use Rattle.cut_tree.specs.LightestEdge.{lightest_among};
+ghost use Rattle.cut_tree.specs.LightestEdge.{lightest_among, no_edge};
 
 use crate::Edge;
 use network::MAX_NODES;
+
+impl Edge {
+    pub fn none() -> Edge
+        ensures { result ≡ no_edge }
+    {
+        Edge { node: 0, weight: 0 }
+    }
+}
 
 // Of n nodes with these weights: the node from 1 up whose edge is lightest, the lowest among equals, and its weight.
 // Of equal weights the first is found.
@@ -20,6 +28,6 @@ pub fn lightest_edge(weight: &[u32; MAX_NODES], n: usize) -> Edge
             node: best as u32,
             weight: weight[best],
         },
-        None => Edge { node: 0, weight: 0 },
+        None => Edge::none(),
     }
 }

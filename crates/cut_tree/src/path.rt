@@ -19,6 +19,8 @@ use network::{MAX_NODES, Refusal};
 pub const MAX_CLIMB: usize = MAX_NODES - 1;
 
 // Whether node i reaches node 0 by at most `left` parents.
+// Kept: a recursion, whose measure is the count that falls. By `successors`, `take(left)` and `any` node i is tested
+// and its parent read apart, since `left + 1` may not fit in 64 bits; the machine code is the same, the proof longer.
 #[tactic(auto, using(crate::proofs::laws::ClimbLaws::reaching))]
 pub fn reaches_root(parent: &[u8; MAX_NODES], left: usize, i: usize) -> bool
     requires { Inside parent.now i }
@@ -36,6 +38,7 @@ pub fn reaches_root(parent: &[u8; MAX_NODES], left: usize, i: usize) -> bool
 
 impl Tree {
     // the lighter of the edges of best and i, the lower number where they are equal; i where there is no best yet
+    // Kept: both are asked to be nodes, by number, as in `RootedTree`.
     #[tactic(auto, using(crate::proofs::laws::QueryLaws::lighter_ways))]
     fn lighter(&self, best: Option<usize>, i: usize) -> usize
         requires { IsNode best × (i < max_nodes) }
@@ -49,8 +52,12 @@ impl Tree {
     }
 }
 
+// Kept: nodes are asked to be below `nodes`, by number, in five functions: a number of a type of its own would be made,
+// with that proof, of each parent that is read.
 impl<'a> RootedTree<'a> {
     // the set x with the nodes from i up to node 0, without it
+    // Kept: a recursion here and in two functions below, as in `reaches_root`: loops over an iterator of the nodes on
+    // the way would be as long, and that iterator, a struct with laws of its own, would come on top.
     #[tactic(auto, using(crate::proofs::laws::QueryLaws::gathering))]
     fn ancestors(&self, left: usize, i: usize, x: u64) -> u64
         requires { i < self.now.nodes }

@@ -3,23 +3,48 @@ ghost use Rattle.std.specs.Prelude.{◌≡◌, ◌-◌, ◌<◌, ℕ};
 ghost use Rattle.network.specs.Limits.{max_nodes};
 ghost use Rattle.cut_tree.specs.Rebuild.{rebuilt};
 ghost use Rattle.cut_tree.specs.code.RebuildParts.{Changes, Gives, step_of};
-ghost use Rattle.cut_tree.specs.Rule.{StepCut, rule, rule_by};
+ghost use Rattle.cut_tree.specs.Rule.{StepCut, no_tree, no_steps, rule, rule_by};
 
-use crate::keep::{Change, OldStep};
-use crate::{Built, Steps, Tree};
+use crate::keep::Change;
+use crate::{Built, Recorded, Steps, Tree};
 use max_flow::{ArcTable, Cut, Prepared};
 use network::{MAX_NODES, ValidNetwork};
 
+impl Tree {
+    // one of zeros: all nodes are beside node 0, by edges of weight 0
+    pub fn new() -> Tree
+        ensures { result ≡ no_tree }
+    {
+        Tree {
+            parent: [0; MAX_NODES],
+            weight: [0; MAX_NODES],
+        }
+    }
+}
+
 impl Steps {
+    // none recorded: zeros
+    pub fn new() -> Steps
+        ensures { result ≡ no_steps }
+    {
+        Steps {
+            pivot: [0; MAX_NODES],
+            side: [0; MAX_NODES],
+            value: [0; MAX_NODES],
+        }
+    }
+
     // what is recorded of step s
-    fn step(&self, s: usize) -> OldStep
+    pub fn step(&self, s: usize) -> Recorded
         requires { s < max_nodes }
         ensures { result ≡ step_of self.now s }
     {
-        OldStep {
+        Recorded {
             pivot: self.pivot[s] as usize,
-            side: self.side[s],
-            value: self.value[s],
+            cut: Cut {
+                side: self.side[s],
+                value: self.value[s],
+            },
         }
     }
 }
@@ -35,15 +60,8 @@ fn worked_out<F: Fn(usize, usize) -> Option<Cut>>(net: ValidNetwork, kept: F) ->
 {
     let mut table = ArcTable::none();
     let prepared = Prepared::new(net, &mut table);
-    let mut tree = Tree {
-        parent: [0; MAX_NODES],
-        weight: [0; MAX_NODES],
-    };
-    let mut steps = Steps {
-        pivot: [0; MAX_NODES],
-        side: [0; MAX_NODES],
-        value: [0; MAX_NODES],
-    };
+    let mut tree = Tree::new();
+    let mut steps = Steps::new();
     let mut count: u32 = 0;
     for s in 1..net.network.nodes {
         let t = tree.parent[s] as usize;
@@ -61,20 +79,22 @@ fn worked_out<F: Fn(usize, usize) -> Option<Cut>>(net: ValidNetwork, kept: F) ->
 }
 
 // The tree as link k of `net` goes to capacity d, by the recorded steps.
+// Kept: `Changes` is asked here, by `altered` of plan and by `compare` of trials: a struct of the network, the link and
+// the capacity would be made for one call and taken apart in it.
 #[tactic(auto, using(network::proofs::laws::NetworkLaws::links_le))]
 pub fn rebuild(net: ValidNetwork, steps: Steps, k: usize, d: u32) -> Built
     requires { Changes net.network k d }
     ensures { result ≡ rebuilt net.network steps k d }
 {
-    let mut new = net.network;
+    // Kept: the memory is fixed and lies on the caller's stack (docs/DECISIONS.md, 87): with `net.with_capacity(k, d)`,
+    // beside a link that is read from `net`, the compiler lays one more network there, 1.5 KB.
+    let mut network = net.network;
     let change = Change {
-        a: new.a[k] as usize,
-        b: new.b[k] as usize,
-        old: new.capacity[k],
+        link: network.link(k),
         new: d,
     };
-    new.capacity[k] = d;
-    worked_out(ValidNetwork { network: new }, |s, t| {
+    network.capacity[k] = d;
+    worked_out(ValidNetwork { network }, |s, t| {
         change.kept(steps.step(s), t)
     })
 }

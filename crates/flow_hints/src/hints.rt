@@ -8,6 +8,9 @@ use node_set::{add, difference, intersection, nodes_in, remove, single, union};
 
 // Sets of nodes: ahead[u] are those to which an arc with room leads from u, into[v] those from which one leads to v,
 // and ring[l] those from which l arcs lead to t. Contracts are said of them, and this crate alone writes them.
+// Kept: `ahead` and `into` have a set for each node, and no function takes both sets of one: a way is noted in `ahead`
+// at one end and in `into` at the other, and a ring is gathered from `into` alone. A record of both for each node would
+// be no plainer.
 #[derive(Clone, Copy)]
 pub struct Hints {
     pub ahead: [u64; MAX_NODES],
@@ -15,14 +18,15 @@ pub struct Hints {
     pub ring: [u64; MAX_NODES],
 }
 
-// Kept: u, x and l are asked to be nodes, by number; numbers of a type of its own would be made, with that proof, at
-// each call, and made plain again at each place of an array.
+// Kept: u and x are asked to be nodes, and l to be a ring, by number; numbers of types of their own would be made, with
+// that proof, at each call, and made plain again at each place of an array.
 impl Hints {
     ghost use Rattle.std.specs.Prelude.{IfSome};
     ghost use Rattle.flow_hints.specs.code.Hints.{leading_to, leads_to, sent_noted, short_noted, shut_noted};
     ghost use Rattle.flow_hints.specs.code.Hints.{start_hints, way_noted};
 
     // The hints before anything is sent: every arc has room.
+    // Kept: each link there and back, as in `ArcTable::fill`.
     #[tactic(auto, unfolding(crate::specs::code::Hints::hints_up_to))]
     pub fn start(net: ValidNetwork) -> Hints
         ensures { result ≡ start_hints net.network }
@@ -33,8 +37,7 @@ impl Hints {
             ring: [0u64; MAX_NODES],
         };
         for link in net.each_link() {
-            let u = link.a as usize;
-            let v = link.b as usize;
+            let (u, v) = link.ends();
             hints.note_way(u, v);
             hints.note_way(v, u);
         }
@@ -70,20 +73,15 @@ impl Hints {
     fn leading_to(&self, ring: u64) -> u64
         ensures { result ≡ leading_to self.now ring }
     {
-        let mut all: u64 = 0;
-        for v in nodes_in(ring) {
-            all = union(all, self.into[v]);
-        }
-        all
+        nodes_in(ring).fold(0, |all, v| union(all, self.into[v]))
     }
 
     // the nodes of ring l to which an arc leads from u
-    #[tactic(auto, unfolding(node_set::specs::Set::intersection))]
     pub fn leads(&self, u: usize, l: usize) -> u64
         requires { (u < max_nodes) × (l < max_nodes) }
         ensures { result ≡ leads_to self.now u l }
     {
-        self.ahead[u] & self.ring[l]
+        intersection(self.ahead[u], self.ring[l])
     }
 
     // something was sent from u to x, and may be sent back

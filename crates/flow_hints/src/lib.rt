@@ -19,6 +19,7 @@ use network::MAX_LINKS;
 pub type Residual = [[u32; 2]; MAX_LINKS];
 
 // what may still be sent along arc j
+// Kept: j is asked to be an arc, by number, as in `ArcTable`.
 pub fn room(residual: &Residual, j: usize) -> u32
     requires { j < max_arcs }
     ensures { result ≡ room_of residual.now j }

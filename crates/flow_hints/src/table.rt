@@ -38,13 +38,15 @@ impl ArcTable {
     }
 
     // The arcs of this network are put in; in place, since a table is large.
+    // Kept: each link there and back, as arcs 2k and 2k + 1, stands in network's `incidence_of`, too, and, without
+    // numbers, in `Hints::start`. An iterator over arcs, with its laws, would be longer than these three pairs of
+    // calls.
     #[tactic(auto, unfolding(crate::specs::code::Hints::table_up_to))]
     pub fn fill(&mut self, net: ValidNetwork)
         ensures { self.new ≡ table_filled net.network self.old }
     {
         for (k, link) in net.each_link().enumerate() {
-            let u = link.a as usize;
-            let v = link.b as usize;
+            let (u, v) = link.ends();
             self.put(u, v, 2 * k);
             self.put(v, u, 2 * k + 1);
         }
@@ -67,18 +69,24 @@ impl ArcTable {
         self.behind[j].arc().is_none()
     }
 
-    // A step from u to x, by an arc of the table that has room, if there is one. Where the arc tried last led to x too,
-    // only those behind it are left.
-    pub fn step(&self, residual: &Residual, u: usize, x: usize, last: Option<Step>) -> Option<Step>
+    // A step from u to x, by an arc of the table that has room, if there is one.
+    pub fn step(&self, residual: &Residual, u: usize, x: usize) -> Option<Step>
         requires { (u < max_nodes) × (x < max_nodes) }
         ensures { IfSome result (λ step. (step.node ≡ x) × (0 < room_of residual.now step.arc)) }
     {
-        let link = match last {
-            Some(tried) if tried.node == x => self.behind[tried.arc],
-            _ => self.first[u][x],
-        };
-        let arc = self.with_room(residual, link)?;
+        let arc = self.with_room(residual, self.first[u][x])?;
         Some(Step { node: x, arc })
+    }
+
+    // Another step with the ends of this one, by an arc behind its own that has room, if there is one.
+    pub fn step_behind(&self, residual: &Residual, tried: Step) -> Option<Step>
+        ensures { IfSome result (λ step. (step.node ≡ tried.node) × (0 < room_of residual.now step.arc)) }
+    {
+        let arc = self.with_room(residual, self.behind[tried.arc])?;
+        Some(Step {
+            node: tried.node,
+            arc,
+        })
     }
 
     // the first of this arc and those behind it that has room

@@ -30,6 +30,19 @@ pub struct Window {
     pub count: u32,
 }
 
+impl Window {
+    // one of no readings
+    pub fn new() -> Window
+        ensures { result ≡ no_readings }
+    {
+        Window {
+            last: 0,
+            lowest: 0,
+            count: 0,
+        }
+    }
+}
+
 // What C gets of a reading: a refusal's number, or 0, and what the window shows, four spaces beside a refusal.
 // Kept: the C interface has the number beside the text.
 #[repr(C)]
@@ -40,7 +53,8 @@ pub struct WindowReply {
 }
 
 // Kept: a generic reply of a number and a value would serve two of C's three (a pair's weight stands at 4), and needs a
-// trait with two functions in place of this one `match`.
+// trait for the value beside a refusal, and a struct of the text, since an array gets no such `impl` here, in place of
+// this one `match`.
 impl From<Result<[u8; WINDOW_WIDTH], Refusal>> for WindowReply {
     ghost from_gives = { λ r reply. reply ≡ as_reply r };
 
@@ -66,11 +80,7 @@ pub struct Noted {
 pub fn reset(w: &mut Window)
     ensures { w.new ≡ no_readings }
 {
-    *w = Window {
-        last: 0,
-        lowest: 0,
-        count: 0,
-    };
+    *w = Window::new();
 }
 
 // The plan's headroom between s and t beside a demand, noted in the record and shown. Refused, the record stays.

@@ -35,7 +35,7 @@ impl<'a> Lines<'a> {
         requires { Room self.old (decimal number) }
         ensures { Adds self.old (decimal number) self.new }
     {
-        self.place = text::put_decimal(&mut *self.out, self.place, number);
+        self.place += text::put_decimal(&mut self.out[self.place..], number);
     }
 
     // The numbers and the line feed.

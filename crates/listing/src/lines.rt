@@ -11,6 +11,9 @@ use cut_tree::Tree;
 use network_file::Fault;
 use plan::Plan;
 
+// Kept: a node, and how many a tree has, are asked to be within the arrays, by number, in tree_line, tree_lines and
+// plan_lines, and s to be a node in pairs_of; numbers of a type of its own would be made, with that proof, at each
+// call.
 impl Lines<'_> {
     #[tactic(auto, unfolding(crate::specs::Listing::tree_line))]
     fn tree_line(&mut self, tree: Tree, node: usize)

@@ -44,9 +44,10 @@ impl Ends<'_> {
     // Flow is sent until no search reaches t. `total` is carried along and raised by each improvement: at every turn it
     // is what leaves s less what enters s, of the flow that `flow` holds (`Flowing`). What was reached at the end is
     // the least minimum cut, and what each link carries is written to `out`, as far as that has places.
+    #[tactic(auto, using(network::proofs::laws::NetworkLaws::nodes_le))]
     pub(crate) fn augment(self, out: &mut [i32]) -> Cut
-        requires { length out.old ≤ self.prepared.now.network.links }
-        ensures { Augmented self.entry.prepared.now.network self.entry.s self.entry.t result out.old out.new }
+        requires { length out.old ≤ self.prepared.now.net.network.links }
+        ensures { Augmented self.entry.prepared.now.net.network self.entry.s self.entry.t result out.old out.new }
     {
         let mut flow = Flow {
             residual: self.prepared.full,
@@ -55,7 +56,9 @@ impl Ends<'_> {
         let mut total: u32 = 0;
         loop {
             total = self.send_all(&mut flow, total);
-            let tree = self.search(flow.residual);
+            // a field of `flow`, passed on by value, would be copied twice
+            let residual = flow.residual;
+            let tree = self.search(residual);
             if !contains(tree.reached, self.t) {
                 write_flow(&self.prepared.full, &flow.residual, out);
                 return Cut {

@@ -9,5 +9,5 @@ pub struct Ends<'a> {
     pub prepared: &'a Prepared<'a>,
     pub s: usize,
     pub t: usize,
-    pub ghost two: { Endpoints prepared.now.network s t },
+    pub ghost two: { Endpoints prepared.now.net.network s t },
 }

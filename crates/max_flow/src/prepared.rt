@@ -1,26 +1,24 @@
 // What the cuts of one network share.
-ghost use Rattle.std.specs.Prelude.{true, ◌≡◌, ◌*◌};
+ghost use Rattle.std.specs.Prelude.{◌≡◌, ◌*◌};
 ghost use Rattle.max_flow.specs.code.Residuals.{full_residual};
-ghost use Rattle.network.specs.Network.{network_fits};
 ghost use Rattle.network.specs.code.Incidence.{Chains};
 
 use crate::Cut;
 use crate::ends::Ends;
 use crate::residual::full_residual;
 use flow_hints::{ArcTable, Hints, Residual};
-use network::{Incidence, Network, ValidNetwork, incidence_of};
+use network::{Incidence, ValidNetwork, incidence_of};
 
 // A network with its arcs, their table, and the flow of nothing to start with.
 #[derive(Clone, Copy)]
 pub struct Prepared<'a> {
-    pub network: Network,
+    pub net: ValidNetwork,
     pub(crate) arcs: Incidence,
     pub(crate) table: &'a ArcTable,
     pub(crate) full: Residual,
     pub(crate) hints: Hints,
-    pub ghost fits: { network_fits network ≡ true },
-    pub ghost chains: { Chains network (2 * network.links) arcs.first arcs.next arcs.to },
-    pub ghost unsent: { full ≡ full_residual network },
+    pub ghost chains: { Chains net.network (2 * net.network.links) arcs.first arcs.next arcs.to },
+    pub ghost unsent: { full ≡ full_residual net.network },
 }
 
 impl<'a> Prepared<'a> {
@@ -29,11 +27,11 @@ impl<'a> Prepared<'a> {
     // What the cuts of this network share, made once. The table, of no arcs so far, is filled in the caller's memory,
     // since it is large.
     pub fn new(net: ValidNetwork, table: &'a mut ArcTable) -> Prepared<'a>
-        ensures { result.network ≡ net.network }
+        ensures { result.net.network ≡ net.network }
     {
         table.fill(net);
         Prepared {
-            network: net.network,
+            net,
             arcs: incidence_of(net),
             table,
             full: full_residual(net),
@@ -43,8 +41,8 @@ impl<'a> Prepared<'a> {
 
     // The least minimum cut of (s, t), for a caller that asks for many of one network.
     pub fn least_cut(&self, s: usize, t: usize) -> Cut
-        requires { Endpoints self.now.network s t }
-        ensures { result ≡ least_cut_of self.now.network s t }
+        requires { Endpoints self.now.net.network s t }
+        ensures { result ≡ least_cut_of self.now.net.network s t }
     {
         let ends = Ends {
             prepared: self,

@@ -23,6 +23,8 @@ pub struct SearchTree {
     pub bottleneck: [u32; MAX_NODES],
 }
 
+// the tree of s alone
+// Kept: s is asked to be a node, by number, as in `Hints`.
 fn seed(s: usize) -> SearchTree
     requires { s < max_nodes }
     ensures { result ≡ seed_of s }
@@ -41,8 +43,9 @@ impl Ends<'_> {
     // Breadth first, until t is reached. The places before i are done: what their arcs lead to is reached.
     // Kept: the project asks for nested loops here, left by a label at the first arc that reaches t; the tree grows as
     // its places are gone over, so no range names them.
+    #[tactic(auto, using(network::proofs::laws::NetworkLaws::nodes_le))]
     pub(crate) fn search(self, residual: Residual) -> SearchTree
-        ensures { Searched self.entry.prepared.now.network residual self.entry.s self.entry.t result }
+        ensures { Searched self.entry.prepared.now.net.network residual self.entry.s self.entry.t result }
     {
         let Ends { prepared, s, t } = self;
         let arcs = &prepared.arcs;

@@ -16,6 +16,8 @@ use node_set::{add, contains, lowest, single};
 
 // What is to be sent on: at most `limit`, from `node` and on to ring `ring`. `on` are the nodes on the way to `node`,
 // and `node`: arcs that lead to those keep their room.
+// Kept: two loads below are another but for one field, and are written field by field, since the language has no `..`
+// beside a ghost field.
 #[derive(Clone, Copy)]
 struct Load {
     node: usize,
@@ -27,7 +29,8 @@ struct Load {
 }
 
 // What stays the same while flow is sent on: the network with its arcs, and the sink t.
-// Kept: `Ends` without s, which none of the methods below would read.
+// Kept: `Ends` without s, which none of the methods below would read; tried as methods of `Ends`, by value and lent, a
+// cut of a sparse network takes 2 to 3 in 100 longer (docs/BENCHMARKS.md, "Forms").
 #[derive(Clone, Copy)]
 struct Sender<'a> {
     prepared: &'a Prepared<'a>,
@@ -35,6 +38,7 @@ struct Sender<'a> {
 }
 
 // the arc back
+// Kept: j is asked to be an arc, by number, as in `flow_hints::room`.
 fn other_way(j: usize) -> usize
     requires { j < max_arcs }
     ensures { result ≡ other_way j }
@@ -60,7 +64,7 @@ impl Sender<'_> {
     // Sends the load to t by `step`, and on from there; how much that is.
     #[cycle(send_send_by_send_from)]
     fn send_by(self, flow: &mut Flow, load: Load, step: Step) -> u32
-        requires balanced { Balanced self.prepared.now.network flow.old.residual }
+        requires balanced { Balanced self.prepared.now.net.network flow.old.residual }
         requires has_room { 0 < room_of flow.old.residual step.arc }
         ensures { SendsLoad self.entry load result flow.old.residual flow.new.residual }
     {
@@ -87,7 +91,7 @@ impl Sender<'_> {
     // The same from a node of the load's ring: all of it at t itself, else what can be sent on to the ring below.
     #[cycle(send_send_by_send_from)]
     fn send_from(self, flow: &mut Flow, load: Load) -> u32
-        requires { Balanced self.prepared.now.network flow.old.residual }
+        requires { Balanced self.prepared.now.net.network flow.old.residual }
         ensures { SendsLoad self.entry load result flow.old.residual flow.new.residual }
     {
         if load.node == self.t {
@@ -108,7 +112,7 @@ impl Sender<'_> {
     // The same along arcs that the hints name to the load's ring, as long as they name one.
     #[cycle(send_send_by_send_from)]
     fn send(self, flow: &mut Flow, load: Load) -> u32
-        requires { Balanced self.prepared.now.network flow.old.residual }
+        requires { Balanced self.prepared.now.net.network flow.old.residual }
         ensures { SendsLoad self.entry load result flow.old.residual flow.new.residual }
     {
         let mut sent: u32 = 0;
@@ -119,7 +123,12 @@ impl Sender<'_> {
                 return sent;
             }
             let x = lowest(rest);
-            let Some(step) = self.prepared.table.step(&flow.residual, load.node, x, last) else {
+            let table = self.prepared.table;
+            let found = match last {
+                Some(tried) if tried.node == x => table.step_behind(&flow.residual, tried),
+                _ => table.step(&flow.residual, load.node, x),
+            };
+            let Some(step) = found else {
                 flow.hints.note_shut(load.node, x);
                 continue;
             };
@@ -143,10 +152,12 @@ impl Sender<'_> {
 impl Ends<'_> {
     // Flow is sent from s to t in phases, as long as the hints find a way. `total` is that of the flow which `flow`
     // holds; each phase raises it by what it sends, and the result is that of the flow then.
+    #[tactic(auto, using(network::proofs::laws::NetworkLaws::nodes_le))]
     pub(crate) fn send_all(self, flow: &mut Flow, total: u32) -> u32
-        requires { Flowing self.prepared.now.network self.s self.t total flow.old.residual }
+        requires { Flowing self.prepared.now.net.network self.s self.t total flow.old.residual }
         ensures lower_bound { total ≤ result }
-        ensures flowing { Flowing self.entry.prepared.now.network self.entry.s self.entry.t result flow.new.residual }
+        ensures flowing { Flowing self.entry.prepared.now.net.network self.entry.s self.entry.t result
+            flow.new.residual }
     {
         let Ends { prepared, s, t } = self;
         let sender = Sender { prepared, t };

@@ -6,3 +6,4 @@ pub mod IncidenceLaws
 pub mod BlankWords
 pub mod EachLink
 pub mod RefusalLaws
+pub mod LinkLaws

@@ -50,6 +50,10 @@ no_network = record {
   capacity = replicate max_links 0;
 }
 
+-- n nodes and m links, whose places are all 0
+abbrev pub blank_network : ℕ → ℕ → Network
+blank_network n m = record no_network { nodes = n; links = m }
+
 -- link k with another capacity
 abbrev pub with_capacity : Network → ℕ → ℕ → Network
 with_capacity net k c = record {

@@ -6,8 +6,9 @@ ghost use Rattle.network.specs.Limits.{max_arcs};
 use crate::MAX_ARCS;
 
 // The number of an arc; one that no arc has is none.
-// Kept: the memory is fixed and lies on the caller's stack: with `Option<u16>`, which takes four bytes here, as it does
-// of a number that is not 0, the table of arcs takes 18.4 KB and not 9.2 and `Incidence` 2.8 KB and not 1.7.
+// Kept: the memory is fixed and lies on the caller's stack, of which a call takes at most 64 KB (docs/DECISIONS.md,
+// 87): with `Option<u16>`, which takes four bytes here, as it does of a number that is not 0, the table of arcs takes
+// 18.4 KB and not 9.2, and a change would take more.
 #[derive(Clone, Copy)]
 pub struct ArcLink {
     pub number: u16,
@@ -16,6 +17,7 @@ pub struct ArcLink {
 impl ArcLink {
     pub const NONE: ArcLink = ArcLink { number: u16::MAX };
 
+    // Kept: j is asked to be an arc, by number: one of a type of its own would be made at each call.
     pub fn to(j: usize) -> ArcLink
         requires { j < max_arcs }
         ensures { result ≡ link_to j }

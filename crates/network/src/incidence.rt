@@ -20,6 +20,7 @@ pub struct Incidence {
 
 impl Incidence {
     // arc e, from u to v, as the first of u's chain
+    // Kept: e and u are asked to be an arc and a node, by number, as in `ArcLink::to`.
     fn add_arc(&mut self, e: usize, u: u8, v: u8)
         requires { (e < max_arcs) × (u < max_nodes) }
         ensures first_after { self.new.first ≡ set self.old.first u (link_to e) }
@@ -41,6 +42,8 @@ pub fn incidence_of(net: ValidNetwork) -> Incidence
         next: [ArcLink::NONE; MAX_ARCS],
         to: [0; MAX_ARCS],
     };
+    // Kept: each link there and back, as in flow_hints: an iterator over arcs, with its laws, would be longer than such
+    // pairs of calls.
     for (k, link) in net.each_link().enumerate() {
         arcs.add_arc(2 * k, link.a, link.b);
         arcs.add_arc(2 * k + 1, link.b, link.a);

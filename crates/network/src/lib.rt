@@ -13,7 +13,7 @@ mod valid; // a network within the limits
 ghost use Rattle.std.specs.Prelude.{◌≡◌, ◌≤◌, ◌<◌, set};
 ghost use Rattle.base.specs.Basics.{at, all};
 ghost use Rattle.network.specs.Limits.{max_links};
-ghost use Rattle.network.specs.Network.{link_fits, network_fits};
+ghost use Rattle.network.specs.Network.{blank_network, link_fits, network_fits};
 
 pub use arc_link::ArcLink;
 pub use blank::{Word, blank_from};
@@ -51,6 +51,19 @@ pub struct Network {
 }
 
 impl Network {
+    // n nodes and m links, and all places 0
+    pub fn new(n: usize, m: usize) -> Network
+        ensures { result ≡ blank_network n m }
+    {
+        Network {
+            nodes: n,
+            links: m,
+            a: [0; MAX_LINKS],
+            b: [0; MAX_LINKS],
+            capacity: [0; MAX_LINKS],
+        }
+    }
+
     // link k by itself
     // Kept: k is asked to be a place of the arrays here, in set_link and where a plan stacks a change; a number of a
     // type of its own would be made, with that proof, at each call.

@@ -1,5 +1,6 @@
 // A link of a network, by itself.
 ghost use Rattle.std.specs.Prelude.{◌≡◌, ◌<◌};
+ghost use Rattle.base.specs.Basics.{differ};
 ghost use Rattle.base.specs.Word.{holds};
 ghost use Rattle.min_cut.specs.Cut.{crossing};
 ghost use Rattle.network.specs.Limits.{max_nodes};
@@ -27,14 +28,30 @@ impl Link {
             && self.capacity <= MAX_CAPACITY
     }
 
+    // its ends, as nodes are counted
+    pub fn ends(self) -> (usize, usize)
+        ensures { result ≡ (self.a, self.b) }
+    {
+        (self.a as usize, self.b as usize)
+    }
+
+    // whether a side crosses it
+    // Kept: its ends are asked to be nodes here and in `crossing`; in the type it would be asked of every link, also of
+    // those that `is_within` tests.
+    #[tactic(auto, using(crate::proofs::laws::LinkLaws::crosses_by))]
+    pub fn crosses(self, side: u64) -> bool
+        requires { (self.a < max_nodes) × (self.b < max_nodes) }
+        ensures { result ≡ differ (holds side self.a) (holds side self.b) }
+    {
+        let (a, b) = self.ends();
+        contains(side, a) != contains(side, b)
+    }
+
     // its capacity where a side crosses it, else 0
     pub fn crossing(self, side: u64) -> u32
         requires { (self.a < max_nodes) × (self.b < max_nodes) }
         ensures { result ≡ crossing (holds side self.a) (holds side self.b) self.capacity }
     {
-        if contains(side, self.a as usize) == contains(side, self.b as usize) {
-            return 0;
-        }
-        self.capacity
+        if self.crosses(side) { self.capacity } else { 0 }
     }
 }

@@ -34,6 +34,7 @@ pub enum Refusal {
 
 impl Refusal {
     // its number in the table
+    // Kept: by `From` a use would say `u32::from(refusal)`, and no longer which number is meant.
     pub fn number(self) -> u32
         ensures { result ≡ refusal_number self }
     {

@@ -12,6 +12,8 @@ ghost use Rattle.network_file.specs.Writing.{max_file};
 use network::{MAX_CAPACITY, MAX_LINKS, MAX_NODES, Refusal};
 
 // The bytes of the highest n, m, end and capacity: one, and one more for each further group of seven bits.
+// Kept: a constant may call no function here, and a macro for four sums of two to five terms, one of which tests
+// otherwise, would be no shorter than they are.
 const NODES_BYTES: usize = 1 + (MAX_NODES >= 1 << 7) as usize;
 
 const LINKS_BYTES: usize = 1 + (MAX_LINKS >= 1 << 7) as usize + (MAX_LINKS >= 1 << 14) as usize;

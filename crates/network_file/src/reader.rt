@@ -1,7 +1,7 @@
 // A file read into a network. A number passes 1 to 3, then its own row, before the next is read.
 ghost use Rattle.std.specs.Prelude.{length, ◌≡◌, ◌≤◌};
 ghost use Rattle.network.specs.Limits.{max_nodes, max_links};
-ghost use Rattle.network_file.specs.Reading.{taken, link_at, going, unread, read_links, read_all, read_by, read_file};
+ghost use Rattle.network_file.specs.Reading.{taken, link_at, going, unread, read_links, read_by, read_file};
 ghost use Rattle.network_file.specs.Results.{as_reading};
 ghost use Rattle.network_file.specs.code.Parts.{as_taken, as_link, as_progress, as_read};
 ghost use Rattle.network_file.specs.code.Rows.{row_of};
@@ -9,6 +9,17 @@ ghost use Rattle.network_file.specs.code.Rows.{row_of};
 use crate::numbers::read_number;
 use crate::{Fault, Row};
 use network::{Link, MAX_CAPACITY, MAX_LINKS, Network, Refusal, ValidNetwork};
+
+// The rows of m and of a capacity.
+const LINKS_ROW: Row = Row::AtMost {
+    most: MAX_LINKS as u32,
+    refusal: Refusal::TooManyLinks,
+};
+
+const CAPACITY_ROW: Row = Row::AtMost {
+    most: MAX_CAPACITY,
+    refusal: Refusal::LinkTooLarge,
+};
 
 // A file, and the place where reading goes on.
 #[derive(Clone, Copy)]
@@ -18,6 +29,8 @@ struct Reader<'a> {
     ghost within: { place ≤ length file.now },
 }
 
+// Kept: `third`, the row of a link's third number, goes beside the reader: as a field of it, each contract would have
+// to say that it stays, too.
 impl Reader<'_> {
     // The next number, by its row.
     fn take(&mut self, row: Row) -> Result<u32, Fault>
@@ -55,37 +68,12 @@ impl Reader<'_> {
         ensures value { as_progress self.new.place result
             ≡ read_links (row_of third) self.old.file.now m (going self.old.place (unread n m)) }
     {
-        let mut network = Network {
-            nodes: n,
-            links: m,
-            a: [0u8; MAX_LINKS],
-            b: [0u8; MAX_LINKS],
-            capacity: [0u32; MAX_LINKS],
-        };
+        let mut network = Network::new(n, m);
+        // Kept: what is written through a `zip` of places and links is not known after the loop, so that no invariant
+        // can say it.
         for k in 0..m {
             let link = self.link(n, third)?;
             network.set_link(k, link);
-        }
-        Ok(network)
-    }
-
-    // The whole file, from its first byte.
-    fn all(&mut self, third: Row) -> Result<Network, Fault>
-        requires { self.old.place ≡ 0 }
-        ensures { as_progress self.new.place result ≡ read_all (row_of third) self.old.file.now }
-    {
-        let links_row = Row::AtMost {
-            most: MAX_LINKS as u32,
-            refusal: Refusal::TooManyLinks,
-        };
-        let n = self.take(Row::Nodes)?;
-        let m = self.take(links_row)?;
-        let network = self.links(n as usize, m as usize, third)?;
-        if self.place < self.file.len() {
-            return Err(Fault {
-                refusal: Refusal::BytesFollow,
-                place: self.place,
-            });
         }
         Ok(network)
     }
@@ -96,17 +84,22 @@ fn read_by(file: &[u8], third: Row) -> Result<Network, Fault>
     ensures { as_read result ≡ read_by (row_of third) file.now }
 {
     let mut reader = Reader { file, place: 0 };
-    reader.all(third)
+    let n = reader.take(Row::Nodes)?;
+    let m = reader.take(LINKS_ROW)?;
+    let network = reader.links(n as usize, m as usize, third)?;
+    if reader.place < file.len() {
+        return Err(Fault {
+            refusal: Refusal::BytesFollow,
+            place: reader.place,
+        });
+    }
+    Ok(network)
 }
 
 // Reads a file into its network.
 pub fn read(file: &[u8]) -> Result<ValidNetwork, Fault>
     ensures { as_reading result ≡ read_file file.now }
 {
-    let capacity_row = Row::AtMost {
-        most: MAX_CAPACITY,
-        refusal: Refusal::LinkTooLarge,
-    };
-    let network = read_by(file, capacity_row)?;
+    let network = read_by(file, CAPACITY_ROW)?;
     Ok(ValidNetwork { network })
 }

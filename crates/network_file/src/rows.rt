@@ -11,31 +11,13 @@ impl Row {
     pub fn check(self, value: u32) -> Result<(), Refusal>
         ensures { outcome_number result ≡ row_of self value }
     {
+        let v = value as usize;
         match self {
-            Row::Nodes => {
-                if value == 0 || value as usize > MAX_NODES {
-                    return Err(Refusal::BadNodeCount);
-                }
-            }
-            Row::AtMost { most, refusal } => {
-                if value > most {
-                    return Err(refusal);
-                }
-            }
-            Row::End { n } => {
-                if value as usize >= n {
-                    return Err(Refusal::EndNotANode);
-                }
-            }
-            Row::OtherEnd { n, a } => {
-                if value as usize >= n {
-                    return Err(Refusal::EndNotANode);
-                }
-                if value == a {
-                    return Err(Refusal::EqualEnds);
-                }
-            }
+            Row::Nodes if v == 0 || v > MAX_NODES => Err(Refusal::BadNodeCount),
+            Row::AtMost { most, refusal } if value > most => Err(refusal),
+            Row::End { n } | Row::OtherEnd { n, .. } if v >= n => Err(Refusal::EndNotANode),
+            Row::OtherEnd { a, .. } if value == a => Err(Refusal::EqualEnds),
+            _ => Ok(()),
         }
-        Ok(())
     }
 }

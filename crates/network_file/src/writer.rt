@@ -54,6 +54,7 @@ impl Writer<'_> {
     }
 
     // Writes v, in at most `left` groups.
+    // Kept: the definition goes down `left`, too, as in `groups_length`.
     fn put_groups(&mut self, v: u32, left: usize)
         requires { HasRoom self.old (group_bytes left v) }
         ensures { Wrote self.old self.new (group_bytes left v) }
@@ -89,7 +90,7 @@ impl Writer<'_> {
     }
 
     // Writes all links.
-    #[tactic(auto, using(crate::proofs::laws::WritingSteps::limits))]
+    #[tactic(auto, using(network::proofs::laws::NetworkLaws::limits))]
     fn put_links(&mut self, net: ValidNetwork)
         requires { HasRoom self.old (link_bytes net.network net.network.links) }
         ensures { Wrote self.old self.new (link_bytes net.network net.network.links) }
@@ -101,7 +102,7 @@ impl Writer<'_> {
 }
 
 // Writes a network's file to the front of a buffer, and gives its length; a buffer that is too short stays as it was.
-#[tactic(auto, using(crate::proofs::laws::WritingSteps::limits))]
+#[tactic(auto, using(network::proofs::laws::NetworkLaws::limits))]
 pub fn write(net: ValidNetwork, out: &mut [u8]) -> Result<usize, Refusal>
     ensures value { as_written result ≡ file_write_of net.network (length out.old) }
     ensures out_after { out.new ≡ file_written_to net.network out.old }

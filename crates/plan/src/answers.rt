@@ -41,7 +41,7 @@ pub fn headroom(p: Plan, s: usize, t: usize, demand: u32) -> Result<HeadroomFoun
 }
 
 // Kept: a generic reply of a number and a value would serve two of C's three (a pair's weight stands at 4), and needs a
-// trait with two functions in place of this one `match`.
+// trait for the value beside a refusal, with an `impl` for each of the two, in place of this one `match`.
 impl From<Result<HeadroomFound, Refusal>> for HeadroomReply {
     ghost from_gives = { λ r reply. reply ≡ as_headroom r };
 

@@ -1,13 +1,12 @@
 // A plan opened from a network's file, and the file written back.
-ghost use Rattle.std.specs.Prelude.{length, ◌≡◌, ◌≤◌};
-ghost use Rattle.network.specs.Limits.{max_nodes};
+ghost use Rattle.std.specs.Prelude.{length, ◌≡◌};
 ghost use Rattle.plan.specs.Calls.{fresh, open_of, write_of, written_to};
 ghost use Rattle.plan.specs.Plan.{no_plan, plan_of};
 ghost use Rattle.plan.specs.Results.{as_opening, as_written};
 
 use crate::{Plan, Stack};
 use cut_tree::{Built, Edge, Steps, Tree};
-use network::{MAX_LINKS, MAX_NODES, Network, Refusal, ValidNetwork};
+use network::{Network, Refusal, ValidNetwork};
 use network_file::Fault;
 
 // All zeros: what C finds beside a refused file.
@@ -15,48 +14,34 @@ pub fn no_plan() -> Plan
     ensures { result ≡ no_plan }
 {
     Plan {
-        network: Network {
-            nodes: 0,
-            links: 0,
-            a: [0; MAX_LINKS],
-            b: [0; MAX_LINKS],
-            capacity: [0; MAX_LINKS],
-        },
-        tree: Tree {
-            parent: [0; MAX_NODES],
-            weight: [0; MAX_NODES],
-        },
-        steps: Steps {
-            pivot: [0; MAX_NODES],
-            side: [0; MAX_NODES],
-            value: [0; MAX_NODES],
-        },
+        network: Network::new(0, 0),
+        tree: Tree::new(),
+        steps: Steps::new(),
         stack: Stack::new(),
-        lightest: Edge { node: 0, weight: 0 },
+        lightest: Edge::none(),
     }
 }
 
 // A plan of a network and what was built of it, with its tree's lightest edge.
-pub fn plan_of(network: Network, built: Built, stack: Stack) -> Plan
-    requires { network.nodes ≤ max_nodes }
-    ensures { result ≡ plan_of network built.tree built.steps stack }
+#[tactic(auto, using(network::proofs::laws::NetworkLaws::nodes_le))]
+pub fn plan_of(net: ValidNetwork, built: Built, stack: Stack) -> Plan
+    ensures { result ≡ plan_of net.network built.tree built.steps stack }
 {
     let tree = built.tree;
     Plan {
-        network,
+        network: net.network,
         tree,
         steps: built.steps,
         stack,
-        lightest: cut_tree::lightest_edge(&tree.weight, network.nodes),
+        lightest: cut_tree::lightest_edge(&tree.weight, net.network.nodes),
     }
 }
 
 // The plan of a network, with an empty stack.
-#[tactic(auto, using(crate::proofs::laws::FilesLaws::limits))]
 fn fresh(net: ValidNetwork) -> Plan
     ensures { result ≡ fresh net.network }
 {
-    plan_of(net.network, cut_tree::build(net), Stack::new())
+    plan_of(net, cut_tree::build(net), Stack::new())
 }
 
 // Reads a file and builds its plan.

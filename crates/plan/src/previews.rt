@@ -5,6 +5,7 @@ ghost use Rattle.plan.specs.Calls.{preview_of};
 ghost use Rattle.plan.specs.Results.{as_preview};
 
 use crate::checks::check_preview;
+use crate::entries::LinkCapacity;
 use crate::{Plan, PreviewFound};
 use network::{Refusal, ValidNetwork};
 
@@ -13,7 +14,11 @@ use network::{Refusal, ValidNetwork};
 pub fn preview(p: Plan, k: usize, c: u32, s: usize, t: usize) -> Result<PreviewFound, Refusal>
     ensures { as_preview result ≡ preview_of p k c s t }
 {
-    check_preview(p, k, c, s, t)?;
+    let new = LinkCapacity {
+        link: k,
+        capacity: c,
+    };
+    check_preview(p, new, s, t)?;
     let net = ValidNetwork { network: p.network };
     let built = cut_tree::rebuild(net, p.steps, k, c);
     let pair = cut_tree::query(built.tree, p.network.nodes, s, t)?;

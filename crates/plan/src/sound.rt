@@ -1,5 +1,6 @@
-// Whether a plan, whatever it holds, is sound (docs/SCOPE.md, 7; number 19). Every call on a
-// plan asks it first, so the tests go over the arrays once each.
+// Whether a plan, whatever it holds, is sound (docs/SCOPE.md, 7; number 19). Every call on a plan asks it first, so the
+// tests go over an array's used places once, and once over those behind them; but over the parents twice, since all are
+// found to be nodes before a climb goes along them.
 ghost use Rattle.std.specs.Prelude.{ltb, true, false, MatchResult, ◌≡◌, ◌<◌, ◌≤◌};
 ghost use Rattle.std.specs.List.{list_all};
 ghost use Rattle.base.specs.Basics.{all, at};
@@ -10,7 +11,8 @@ ghost use Rattle.plan.specs.code.SoundParts.{tree_with_edge, root_step_within, s
 
 use crate::node_count::NodeCount;
 use crate::{MAX_DEPTH, Plan, Stack};
-use cut_tree::{Edge, MAX_CLIMB, Steps, Tree};
+use cut_tree::{Edge, MAX_CLIMB, Recorded, Steps, Tree};
+use max_flow::Cut;
 use network::{MAX_CAPACITY, MAX_NODES, MAX_VALUE, Refusal};
 
 fn are_nodes(xs: &[u8], n: usize) -> bool
@@ -20,6 +22,8 @@ fn are_nodes(xs: &[u8], n: usize) -> bool
 }
 
 // Node i's weight: within the limit, and its edge is not lighter than the lightest, nor as light with a lower number.
+// Kept: by `(lightest.weight, lightest.node as usize) <= (weight, i)` a turn takes an instruction more, and a pair,
+// which has next to nothing left below its target, 2 in 100 longer.
 #[tactic(auto, using(crate::proofs::laws::Tests::rules), unfolding(crate::specs::code::SoundParts::weight_within))]
 fn weight_within(lightest: Edge, i: usize, weight: u32) -> bool
     ensures { result ≡ weight_within lightest i weight }
@@ -30,10 +34,11 @@ fn weight_within(lightest: Edge, i: usize, weight: u32) -> bool
 }
 
 #[tactic(auto, using(crate::proofs::laws::Tests::rules))]
-fn root_step_within(pivot: u8, side: u64, value: u32) -> bool
-    ensures { result ≡ root_step_within pivot side value }
+fn root_step_within(step: Recorded) -> bool
+    ensures { result ≡ root_step_within step.pivot step.cut.side step.cut.value }
 {
-    pivot == 0 && side == 0 && value == 0
+    let cut = Cut { side: 0, value: 0 };
+    step == Recorded { pivot: 0, cut }
 }
 
 #[tactic(auto, using(crate::proofs::laws::Tests::rules))]
@@ -56,13 +61,15 @@ impl NodeCount {
         ensures { result ≡ is_edge self.count weight.now edge }
     {
         if self.count <= 1 {
-            return edge == Edge { node: 0, weight: 0 };
+            return edge == Edge::none();
         }
         let v = edge.node as usize;
         v != 0 && v < self.count && weight[v] == edge.weight
     }
 
     // The weights, and that the edge is the lightest: one pass over the nodes from 1 up.
+    // Kept: i is a node that the test is asked of, and no mere place; by `enumerate` and `skip` the line is longer, and
+    // a turn takes as many instructions.
     fn weights_fit(self, weight: &[u32; MAX_NODES], lightest: Edge) -> bool
         requires { at weight.now 0 ≡ 0 }
         ensures { result ≡ weights_fit self.count weight.now lightest }
@@ -93,28 +100,23 @@ impl NodeCount {
     }
 
     #[tactic(auto, using(crate::proofs::laws::Tests::rules))]
-    fn step_within(self, s: usize, pivot: u8, side: u64, value: u32) -> bool
+    fn step_within(self, s: usize, step: Recorded) -> bool
         requires { s < self.count }
-        ensures { result ≡ step_within self.count s pivot side value }
+        ensures { result ≡ step_within self.count s step.pivot step.cut.side step.cut.value }
     {
-        let t = usize::from(pivot);
-        t < self.count
+        let side = step.cut.side;
+        step.pivot < self.count
             && side <= node_set::all_below(self.count)
-            && value <= MAX_VALUE
+            && step.cut.value <= MAX_VALUE
             && node_set::contains(side, s)
-            && !node_set::contains(side, t)
+            && !node_set::contains(side, step.pivot)
     }
 
     fn each_step_fits(self, steps: Steps) -> bool
         ensures { result ≡ all self.count (step_fits self.count steps) }
     {
-        root_step_within(steps.pivot[0], steps.side[0], steps.value[0])
-            && (1..self.count).all(|s| self.step_within(
-                s,
-                steps.pivot[s],
-                steps.side[s],
-                steps.value[s],
-            ))
+        root_step_within(steps.step(0))
+            && (1..self.count).all(|s| self.step_within(s, steps.step(s)))
     }
 
     #[tactic(auto, using(crate::proofs::laws::Tests::rules), unfolding(crate::specs::Plan::steps_fit))]
@@ -133,7 +135,10 @@ impl Stack {
         requires { self.depth ≤ max_depth }
         ensures { result ≡ all self.depth (entry_fits m self) }
     {
-        (0..self.depth).all(|i| entry_within(m, self.link[i], self.capacity[i]))
+        self.link[..self.depth]
+            .iter()
+            .zip(&self.capacity[..self.depth])
+            .all(|(&link, &capacity)| entry_within(m, link, capacity))
     }
 
     // In a network of m links.

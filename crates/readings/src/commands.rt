@@ -98,6 +98,7 @@ fn split_once(text: &[u8], separator: u8) -> (&[u8], &[u8]) {
 }
 
 // A number with one digit more, where that fits.
+// Kept: `parse` refuses all of a number that is too large, where this leaves out the digit that makes it so.
 fn longer(number: u32, digit: u32) -> u32 {
     number
         .checked_mul(10)
@@ -130,6 +131,7 @@ fn signed(word: &[u8]) -> i32 {
 }
 
 // The value of a digit of base 16, of which the letters are small.
+// Kept: `to_digit` and `from_str_radix` take capitals as well, which are left out here as all other bytes are.
 fn hex_digit(byte: &u8) -> Option<u32> {
     let digit = char::from(*byte).to_digit(16);
     digit.filter(|_| !byte.is_ascii_uppercase())

@@ -33,11 +33,10 @@ fn front(file: &[u8], length: usize) -> &[u8] {
     file.get(..length).unwrap_or(file)
 }
 
-// Kept: one function for this file and the one of many links would be lent the head, both lengths and a closure for the
-// link, with clauses that the head fits and that a link has a byte: it would be longer than the two.
-
 // The longest file, of 64 nodes and 256 links, with one byte more, 0. Link k is to the next node, of a capacity up to
 // 1,000,000, in three bytes.
+// Kept: one function for this file and the one of many links would be lent the head, both lengths and a closure for the
+// link, with clauses that the head fits and that a link has a byte: it would be longer than the two.
 fn longest_file() -> [u8; LONGEST] {
     let mut file = [0; LONGEST];
     file[..HEAD].copy_from_slice(&[0x40, 0x80, 0x02]);

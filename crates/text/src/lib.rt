@@ -1,9 +1,7 @@
 // Signed tenths: their difference, and their text of twelve bytes; and decimal numbers put into a buffer.
 #![tactic(auto)]
 
-ghost use Rattle.std.specs.Prelude.{nat_abs, pos, ◌-ℤ◌, ◌≡◌, length, ◌+◌, ◌<◌, ◌≤◌, ◌^◌};
-ghost use Rattle.std.proofs.lemmas.List.Edits.{sets};
-ghost use Rattle.text.specs.code.Columns.{tenths_from};
+ghost use Rattle.std.specs.Prelude.{nat_abs, pos, ◌-ℤ◌, ◌≡◌, length, drop, ◌++◌, ◌<◌, ◌≤◌, ◌^◌};
 ghost use Rattle.text.specs.Text.{decimal, text_of};
 
 use itoa::{Buffer, write_digits};
@@ -24,25 +22,11 @@ pub fn difference(weight: u32, demand: u32) -> i32
     weight as i32 - demand as i32
 }
 
-// So many tenths, and a minus before them if they are below zero.
-fn tenths_from(m: u32, negative: bool) -> [u8; TEXT_WIDTH]
-    requires { m ≤ 2 ^ 31 }
-    ensures { result ≡ tenths_from m negative }
-{
-    let mut out = [b' '; TEXT_WIDTH];
-    out[POINT] = b'.';
-    out[TENTH] = b'0' + (m % 10) as u8;
-    let start = write_digits((m / 10) as u64, &mut out, POINT);
-    if negative {
-        out[start - 1] = b'-';
-    }
-    out
-}
-
 // The size of a number. Below zero the number one above is negated: the least number's own negation would not fit.
 // Kept: the project's rule wants the negation written out, with its exact sign.
 fn magnitude(z: i32) -> u32
-    ensures { result ≡ nat_abs z }
+    ensures value { result ≡ nat_abs z }
+    ensures most { result ≤ 2 ^ 31 }
 {
     if z < 0 {
         (-(z + 1)) as u32 + 1
@@ -51,22 +35,31 @@ fn magnitude(z: i32) -> u32
     }
 }
 
-// A number of tenths as text.
+// A number of tenths as text, with a minus before it if it is below zero.
 pub fn tenths(z: i32) -> [u8; TEXT_WIDTH]
     ensures { result ≡ text_of z }
 {
-    tenths_from(magnitude(z), z < 0)
+    let m = magnitude(z);
+    let mut out = [b' '; TEXT_WIDTH];
+    out[POINT] = b'.';
+    out[TENTH] = b'0' + (m % 10) as u8;
+    let start = write_digits((m / 10) as u64, &mut out, POINT);
+    if z < 0 {
+        out[start - 1] = b'-';
+    }
+    out
 }
 
-// Writes n in decimal at a place, and gives the place behind it.
-#[tactic(auto, using(crate::proofs::laws::PlacedLaws::decimal_is, crate::proofs::laws::PlacedLaws::sets_part))]
-pub fn put_decimal(out: &mut [u8], at: usize, n: u64) -> usize
-    requires { at + length (decimal n) ≤ length out.old }
-    ensures { (result ≡ at + length (decimal n)) × (out.new ≡ sets out.old at (decimal n)) }
+// Writes n in decimal at the front of a buffer, and gives how many bytes that takes.
+#[tactic(auto, using(crate::proofs::laws::PlacedLaws::putting))]
+pub fn put_decimal(out: &mut [u8], n: u64) -> usize
+    requires { length (decimal n) ≤ length out.old }
+    ensures size { result ≡ length (decimal n) }
+    ensures written { out.new ≡ decimal n ++ drop (length (decimal n)) out.old }
 {
     let mut buffer = Buffer::new();
     let digits = buffer.format(n).as_bytes();
-    let end = at + digits.len();
-    out[at..end].copy_from_slice(digits);
+    let end = digits.len();
+    out[..end].copy_from_slice(digits);
     end
 }

@@ -83,8 +83,8 @@ impl Question<'_> {
                 && match outcome {
                     Err(_) => out.iter().all(|&x| x == UNFILLED),
                     Ok(()) => sides
-                        .best(s, t)
-                        .is_some_and(|best| is_lawful(&machine.network, &out, s, t, best.value)),
+                        .weight(s, t)
+                        .is_some_and(|weight| is_lawful(&machine.network, &out, s, t, weight)),
                 },
         )
     }
@@ -99,10 +99,9 @@ impl Question<'_> {
             t,
         } = self;
         let found = plan::headroom(*plan, s, t, demand);
-        let weight = sides.best(s, t).map(|best| best.value);
         Ok(
             found.err() == machine.check_headroom(s, t, demand).err()
-                && headroom_right(alloc, found, weight, demand)?,
+                && headroom_right(alloc, found, sides.weight(s, t), demand)?,
         )
     }
 }

@@ -2,7 +2,7 @@
 // number in groups of seven bits, lowest first.
 use network::{Network, Refusal};
 use network_file::{Fault, MAX_FILE};
-use plan::{MAX_DEPTH, Plan, Stack};
+use plan::{Plan, Stack};
 use std::alloc::{AllocError, Global};
 
 // What stands in a buffer where nothing is written.
@@ -41,6 +41,8 @@ fn is_unwritten(buffer: &[u8]) -> bool {
 }
 
 // Whether a buffer that is too short for a file of this length is refused and left.
+// Kept: whoever allocates is lent the allocator, as in `file_of`; a struct of it and the plan would be made for each
+// call, here and in `file_right`, and taken apart in it.
 fn short_right(alloc: Global, p: &Plan, length: usize) -> Result<bool, AllocError> {
     let mut out = vec![in alloc; UNWRITTEN; length.saturating_sub(1)]?;
     let refused = plan::write(*p, &mut out);
@@ -60,11 +62,7 @@ fn written_right(p: &Plan, file: &[u8]) -> bool {
 // Whether writing gives the file of this network, and opening that file gives the plan again, with an empty stack.
 pub fn file_right(alloc: Global, p: &Plan, net: &Network) -> Result<bool, AllocError> {
     let file = file_of(alloc, net)?;
-    let stack = Stack {
-        depth: 0,
-        link: [0; MAX_DEPTH],
-        capacity: [0; MAX_DEPTH],
-    };
+    let stack = Stack::new();
     Ok(
         written_right(p, &file)
             && short_right(alloc, p, file.len())?

@@ -12,22 +12,9 @@ const LAST_NODE: usize = 9;
 
 const LINKS: usize = 20;
 
+// Whether the cut for s and t is the one that a trial of every side finds, and the flow a lawful one of its value.
 // Kept: whoever allocates is lent the allocator; a struct of it and the network would be made for each call and taken
 // apart in it.
-fn flow_right(
-    alloc: Global,
-    net: ValidNetwork,
-    s: usize,
-    t: usize,
-    value: u32,
-) -> Result<bool, AllocError>
-    requires { Endpoints net.network s t }
-{
-    let mut flow = vec![in alloc; 0i32; net.network.links]?;
-    max_flow::lawful_flow(net, s, t, &mut flow);
-    Ok(is_lawful(&net.network, &flow, s, t, value))
-}
-
 fn pair_right(
     alloc: Global,
     net: ValidNetwork,
@@ -38,10 +25,12 @@ fn pair_right(
     requires { Endpoints net.network s t }
 {
     let cut = max_flow::least_min_cut(net, s, t);
+    let mut flow = vec![in alloc; 0i32; net.network.links]?;
+    max_flow::lawful_flow(net, s, t, &mut flow);
     Ok(
         sides.best(s, t) == Some(cut)
             && sides.value(cut.side) == Some(cut.value)
-            && flow_right(alloc, net, s, t, cut.value)?,
+            && is_lawful(&net.network, &flow, s, t, cut.value),
     )
 }
 

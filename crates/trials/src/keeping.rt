@@ -49,6 +49,7 @@ impl Change {
 }
 
 // The network with another capacity of link k.
+// Kept: this is the library's `with_capacity` written again, since by it the library is judged.
 pub fn with_capacity(net: Network, k: usize, d: u32) -> Network {
     let mut changed = net;
     if let Some(capacity) = changed.capacity.get_mut(k) {

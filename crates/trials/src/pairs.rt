@@ -77,9 +77,7 @@ impl Judge<'_> {
         let Judge { tree, nodes, sides } = self;
         let path = way_up(&tree.parent, s) ^ way_up(&tree.parent, t);
         side_right(found.side, found.size, s, t)
-            && sides
-                .best(s, t)
-                .is_some_and(|best| best.value == found.weight)
+            && sides.weight(s, t) == Some(found.weight)
             && sides.value(found.side) == Some(found.weight)
             && has_edge(found.node, nodes)
             && self.edges_right(found, path)

@@ -9,7 +9,7 @@ use crate::machine::{Entry, Machine};
 use crate::previews::preview_right;
 use crate::random::Random;
 use crate::sides::Sides;
-use crate::tally::{Kind, Tally};
+use crate::tally::Kind;
 use crate::trial::Trial;
 use network::{MAX_CAPACITY, MAX_LINKS, MAX_NODES, Network, Refusal};
 use plan::{Altered, MAX_DEMAND, Plan};
@@ -97,12 +97,10 @@ fn some_capacity(random: &mut Random, net: &Network, k: usize) -> u32 {
     random.new_capacity(net, k)
 }
 
-// A plan on its way through calls, the machine beside it, and where they are counted.
+// A plan on its way through calls, the machine beside it, and the trial that draws and counts them.
 #[derive(Drop)]
 struct Run<'a> {
-    alloc: Global,
-    random: Random,
-    tally: &'a mut Tally,
+    trial: Trial<'a>,
     plan: Plan,
     machine: Machine,
 }
@@ -135,7 +133,8 @@ impl Run<'_> {
         if let Ok(altered) = reply {
             self.plan = altered.plan;
         }
-        self.tally
+        self.trial
+            .tally
             .count_call(Kind::Call, outcome.map(|_| ()), right)
     }
 
@@ -156,7 +155,7 @@ impl Run<'_> {
 
     // A pair, flow or headroom call for nodes that may be none or equal, and a look at the lightest edge.
     fn ask(&mut self, asked: Asked, mut random: Random) -> Result<(), AllocError> {
-        let alloc = self.alloc;
+        let alloc = self.trial.alloc;
         let n = self.last_node();
         let s = random.draw(n);
         let t = random.draw(n);
@@ -187,13 +186,15 @@ impl Run<'_> {
             }
         };
         let least = least_right(&self.plan, &sides);
-        self.tally.count_call(Kind::Call, outcome, least && right)
+        self.trial
+            .tally
+            .count_call(Kind::Call, outcome, least && right)
     }
 
     // A preview of a change that may be refused, for nodes that may be none or equal. Its draws are not those of the
     // calls.
     fn try_preview(&mut self) -> Result<(), AllocError> {
-        let mut random = self.random.apart();
+        let mut random = self.trial.random.apart();
         let link = random.last(self.last_link());
         let capacity = some_capacity(&mut { random }, &self.machine.network, link);
         let change = Entry { link, capacity };
@@ -202,17 +203,17 @@ impl Run<'_> {
         let n = self.last_node();
         let s = nodes.draw(n);
         let t = nodes.draw(n);
-        let right = preview_right(self.alloc, &self.plan, &self.machine, change, s, t)?;
+        let right = preview_right(self.trial.alloc, &self.plan, &self.machine, change, s, t)?;
         let outcome = self.machine.check_preview(change, s, t);
-        self.tally.count_call(Kind::Preview, outcome, right)
+        self.trial.tally.count_call(Kind::Preview, outcome, right)
     }
 
     // A preview, then a call. The next one goes on with draws that this one has made, too.
     fn one_call(&mut self, mood: Mood) -> Result<(), AllocError> {
         self.try_preview()?;
-        let call = Call::drawn(&mut self.random, mood);
-        let ahead = self.random;
-        self.random.skip(2);
+        let call = Call::drawn(&mut self.trial.random, mood);
+        let ahead = self.trial.random;
+        self.trial.random.skip(2);
         match call {
             Call::Ask(asked) => self.ask(asked, ahead),
             Call::Change => self.try_change(ahead),
@@ -221,9 +222,14 @@ impl Run<'_> {
     }
 
     fn try_pairs(&mut self, sides: &Sides) -> Result<(), AllocError> {
-        let (plan, machine, alloc) = (&self.plan, &self.machine, self.alloc);
+        let Run {
+            trial,
+            plan,
+            machine,
+        } = self;
+        let alloc = trial.alloc;
         let Network { nodes, links, .. } = machine.network;
-        self.tally.count_pairs(nodes, |s, t| {
+        trial.tally.count_pairs(nodes, |s, t| {
             let question = Question {
                 plan,
                 machine,
@@ -236,48 +242,42 @@ impl Run<'_> {
     }
 
     fn try_list(&mut self) -> Result<(), AllocError> {
-        let mood = Mood::of(self.random);
+        let mood = Mood::of(self.trial.random);
         for _ in 0..mood.list_length() {
             self.one_call(mood)?;
         }
+        let alloc = self.trial.alloc;
         let net = &self.machine.network;
-        let sides = Sides::if_fits(self.alloc, net)?;
-        let least = least_right(&self.plan, &sides);
-        self.tally.count(
-            Kind::List,
-            least && file_right(self.alloc, &self.plan, net)?,
-        )?;
+        let sides = Sides::if_fits(alloc, net)?;
+        let right = least_right(&self.plan, &sides) && file_right(alloc, &self.plan, net)?;
+        self.trial.tally.count(Kind::List, right)?;
         self.try_pairs(&sides)
     }
 }
 
 // A plan that is opened from the file of a random network, and its lists of calls.
 pub fn try_network(trial: &mut Trial) -> Result<(), AllocError> {
-    let Trial {
-        alloc,
-        random,
-        tally,
-    } = trial;
-    let most = if random.last(9) == 0 {
+    let alloc = trial.alloc;
+    let most = if trial.random.last(9) == 0 {
         MANY_LINKS
     } else {
         LINKS
     };
-    let network = random.network(LAST_NODE, most);
-    let file = file_of(*alloc, &network)?;
+    let network = trial.random.network(LAST_NODE, most);
+    let file = file_of(alloc, &network)?;
     let Ok(plan) = plan::open(&file) else {
-        return tally.count(Kind::Network, false);
+        return trial.tally.count(Kind::Network, false);
     };
-    let sides = Sides::if_fits(*alloc, &network)?;
+    let sides = Sides::if_fits(alloc, &network)?;
     let opened = plan.network == network && plan.stack.depth == 0;
     let least = lightest_right(&plan) && least_right(&plan, &sides);
-    tally.count(Kind::Network, opened && least && damaged_right(file)?)?;
+    trial
+        .tally
+        .count(Kind::Network, opened && least && damaged_right(file)?)?;
     let mut run = Run {
-        alloc: *alloc,
-        random: random.apart(),
-        tally,
+        trial: trial.apart(),
         plan,
-        machine: Machine::started(*alloc, network),
+        machine: Machine::started(alloc, network),
     };
     for _ in 0..LISTS {
         run.try_list()?;

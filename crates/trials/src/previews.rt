@@ -9,6 +9,8 @@ use std::alloc::{AllocError, Global};
 // Whether a preview is right: refused as the machine says; or with the count of the change, and an answer that is right
 // in the tree that the change leaves and by a trial of every side. The change itself, which is made on a copy, has to
 // be right too.
+// Kept: a `Question` also has the value of every side before the change, by which no preview is judged, so that it
+// would be worked out for nothing; and whoever allocates is lent the allocator.
 pub fn preview_right(
     alloc: Global,
     p: &Plan,

@@ -3,7 +3,7 @@
 ghost use Rattle.std.specs.Prelude.{◌<◌, ◌≤◌};
 ghost use Rattle.network.specs.Limits.{max_capacity, max_links, max_nodes};
 
-use network::{MAX_CAPACITY, MAX_LINKS, Network};
+use network::{MAX_CAPACITY, Network};
 
 #[derive(Clone, Copy)]
 pub struct Random {
@@ -76,13 +76,7 @@ impl Random {
         let last = self.draw(last);
         let links = self.draw(if last == 0 { 0 } else { most });
         let highest = self.highest();
-        let mut net = Network {
-            nodes: last + 1,
-            links,
-            a: [0; MAX_LINKS],
-            b: [0; MAX_LINKS],
-            capacity: [0; MAX_LINKS],
-        };
+        let mut net = Network::new(last + 1, links);
         let ends = net.a.iter_mut().zip(&mut net.b);
         for ((a, b), capacity) in ends.zip(&mut net.capacity).take(links) {
             let from = self.draw(last);

@@ -69,6 +69,11 @@ impl Sides {
             .reduce(best_of)
     }
 
+    // The smallest value of all sides that hold s and not t.
+    pub fn weight(&self, s: usize, t: usize) -> Option<u32> {
+        self.best(s, t).map(|best| best.value)
+    }
+
     // The smallest value of all sides that are neither empty nor all nodes: the first one and the last one.
     pub fn least(&self) -> Option<u32> {
         match self.values.as_slice() {

@@ -4,13 +4,12 @@ ghost use Rattle.cut_tree.specs.code.RebuildParts.{Changes};
 
 use crate::keeping::{Change, with_capacity};
 use crate::pairs::Judge;
-use crate::random::Random;
 use crate::sides::Sides;
 use crate::tally::{Kind, Tally};
 use crate::trial::Trial;
 use cut_tree::Steps;
 use network::{MAX_CAPACITY, ValidNetwork};
-use std::alloc::{AllocError, Global};
+use std::alloc::AllocError;
 
 // How often a network is changed, and of how many nodes and links the networks are.
 const CHANGES: usize = 5;
@@ -19,27 +18,22 @@ const LAST_NODE: usize = 8;
 
 const LINKS: usize = 16;
 
-fn pair_right(judge: Judge, s: usize, t: usize) -> bool
-    requires { Climbs judge.nodes judge.tree.now.parent }
-{
-    let Judge { tree, nodes, .. } = judge;
-    let here = cut_tree::query(*tree, nodes, s, t);
-    let there = cut_tree::query(*tree, nodes, t, s);
-    judge.both_right(here, there, s, t)
-}
-
+// Counts all pairs of a judge's tree.
 fn try_pairs(tally: &mut Tally, judge: Judge) -> Result<(), AllocError>
     requires { Climbs judge.nodes judge.tree.now.parent }
 {
-    tally.count_pairs(judge.nodes, |s, t| Ok(pair_right(judge, s, t)))
+    let Judge { tree, nodes, .. } = judge;
+    tally.count_pairs(nodes, |s, t| {
+        let here = cut_tree::query(*tree, nodes, s, t);
+        let there = cut_tree::query(*tree, nodes, t, s);
+        Ok(judge.both_right(here, there, s, t))
+    })
 }
 
-// A network on its way through changes, with the steps of its tree, and where they are counted.
+// A network on its way through changes, with the steps of its tree, and the trial that draws and counts them.
 #[derive(Drop)]
 struct Walk<'a> {
-    alloc: Global,
-    random: Random,
-    tally: &'a mut Tally,
+    trial: Trial<'a>,
     network: ValidNetwork,
     steps: Steps,
 }
@@ -61,13 +55,13 @@ impl Walk<'_> {
         let right = rebuilt.tree == fresh.tree
             && rebuilt.steps == fresh.steps
             && counted == Some(rebuilt.count as usize);
-        self.tally.count(Kind::Change, right)?;
+        self.trial.tally.count(Kind::Change, right)?;
         let judge = Judge {
             tree: &fresh.tree,
             nodes: n,
-            sides: &Sides::of(self.alloc, changed)?,
+            sides: &Sides::of(self.trial.alloc, changed)?,
         };
-        try_pairs(self.tally, judge)?;
+        try_pairs(self.trial.tally, judge)?;
         self.network = changed;
         self.steps = rebuilt.steps;
         Ok(())
@@ -79,13 +73,13 @@ impl Walk<'_> {
         if net.links == 0 {
             return Ok(());
         }
-        let k = self.random.draw(net.links - 1);
-        let mut ahead = self.random;
-        self.random.skip(2);
+        let k = self.trial.random.draw(net.links - 1);
+        let mut ahead = self.trial.random;
+        self.trial.random.skip(2);
         let d = ahead.new_capacity(&net, k);
         match ValidNetwork::new(with_capacity(net, k, d)) {
             Some(changed) if d <= MAX_CAPACITY => self.compare(changed, k, d),
-            _ => self.tally.count(Kind::Change, false),
+            _ => self.trial.tally.count(Kind::Change, false),
         }
     }
 }
@@ -96,9 +90,7 @@ pub fn try_network(trial: &mut Trial) -> Result<(), AllocError> {
         return Ok(());
     };
     let mut walk = Walk {
-        alloc: trial.alloc,
-        random: trial.random.apart(),
-        tally: &mut trial.tally,
+        trial: trial.apart(),
         network,
         steps: cut_tree::build(network).steps,
     };

@@ -8,13 +8,22 @@ use network::ValidNetwork;
 use std::alloc::{AllocError, Global};
 
 #[derive(Drop)]
-pub struct Trial {
+pub struct Trial<'a> {
     pub alloc: Global,
     pub random: Random,
-    pub tally: Tally,
+    pub tally: &'a mut Tally,
 }
 
-impl Trial {
+impl Trial<'_> {
+    // A trial apart: its draws are not those that follow here, and it counts in the same tally.
+    pub fn apart(&mut self) -> Trial<'_> {
+        Trial {
+            alloc: self.alloc,
+            random: self.random.apart(),
+            tally: &mut *self.tally,
+        }
+    }
+
     // A random network of at most last + 1 nodes and at most `most` links. It is counted, as wrong where it is not
     // within the limits.
     pub fn network(&mut self, last: usize, most: usize) -> Result<Option<ValidNetwork>, AllocError>
@@ -35,13 +44,14 @@ pub fn repeat<F: Fn(&mut Trial) -> Result<(), AllocError>>(
 ) -> Result<Tally, AllocError>
     requires { F.IsAlwaysCallable make }
 {
+    let mut tally = Tally::new(alloc);
     let mut trial = Trial {
         alloc,
         random: Random::new(seed),
-        tally: Tally::new(alloc),
+        tally: &mut tally,
     };
     for _ in 0..times {
         make(&mut trial)?;
     }
-    Ok(trial.tally)
+    Ok(tally)
 }

@@ -5,9 +5,9 @@ use crate::headrooms::tenths;
 use crate::machine::check_headroom;
 use crate::random::Random;
 use crate::sides::Sides;
-use crate::tally::{Kind, Tally};
+use crate::tally::Kind;
 use crate::trial::Trial;
-use gate_window::{Noted, Window, WindowReply};
+use gate_window::{MAX_READINGS, Noted, Window, WindowReply};
 use network::{MAX_NODES, Refusal};
 use plan::{MAX_DEMAND, Plan};
 use std::alloc::{AllocError, Global};
@@ -37,7 +37,7 @@ impl Reading {
         let last = n.min(MAX_NODES);
         let s = random.draw(last);
         let t = random.draw(last);
-        let weight = sides.best(s, t).map(|best| best.value);
+        let weight = sides.weight(s, t);
         Reading {
             s,
             t,
@@ -129,23 +129,23 @@ fn shown(alloc: Global, headroom: i32) -> Result<String, AllocError> {
     }
 }
 
-// A record on its way through a list, and where its readings are counted.
+// A record on its way through a list on a plan, and the trial that draws and counts its readings.
 #[derive(Drop)]
 struct Run<'a> {
-    alloc: Global,
-    random: Random,
-    tally: &'a mut Tally,
+    trial: Trial<'a>,
+    plan: &'a Plan,
+    sides: &'a Sides,
     window: Window,
     kept: Kept,
 }
 
 impl<'a> Run<'a> {
     // A record that no reset made, with no readings or about as many as it takes.
-    fn started(alloc: Global, mut random: Random, tally: &'a mut Tally) -> Run<'a> {
-        let headroom = random.draw(400) as i32 - 200;
-        let count = if random.draw(2) == 0 {
-            let mut ahead = random;
-            999_996 + ahead.draw(6) as u32
+    fn started(mut trial: Trial<'a>, plan: &'a Plan, sides: &'a Sides) -> Run<'a> {
+        let headroom = trial.random.draw(400) as i32 - 200;
+        let count = if trial.random.draw(2) == 0 {
+            let mut ahead = trial.random;
+            MAX_READINGS - 4 + ahead.draw(6) as u32
         } else {
             0
         };
@@ -154,27 +154,29 @@ impl<'a> Run<'a> {
             lowest: headroom,
             count,
         };
+        let kept = Kept::new(trial.alloc, window);
         Run {
-            alloc,
-            random,
-            tally,
+            trial,
+            plan,
+            sides,
             window,
-            kept: Kept::new(alloc, window),
+            kept,
         }
     }
 
     // Whether a reading gives the reply and leaves the record that it has to, by itself and on a copy.
-    fn try_reading(&mut self, p: &Plan, r: Reading) -> Result<(), AllocError> {
+    fn try_reading(&mut self, r: Reading) -> Result<(), AllocError> {
+        let p = self.plan;
         let Reading { s, t, demand, .. } = r;
         let before = self.window;
-        let outcome = r.check(p.network.nodes, self.kept.count() < 1_000_000);
+        let outcome = r.check(p.network.nodes, self.kept.count() < MAX_READINGS);
         let (expected, text) = match outcome {
             Ok(()) => {
                 let headroom = r.headroom().unwrap_or(0);
                 self.kept.headrooms.push(headroom)?;
-                (0, shown(self.alloc, headroom)?)
+                (0, shown(self.trial.alloc, headroom)?)
             }
-            Err(refusal) => (refusal.number(), format!(in self.alloc; "    ")?),
+            Err(refusal) => (refusal.number(), format!(in self.trial.alloc; "    ")?),
         };
         let reply = gate_window::reading(&mut self.window, *p, s, t, demand);
         let window = self.window;
@@ -185,51 +187,41 @@ impl<'a> Run<'a> {
             && got.text.as_slice() == text.as_bytes()
             && window == self.kept.window()
             && noted == reply.map(|text| Noted { window, text });
-        self.tally.count_call(Kind::Reading, outcome, right)
+        self.trial.tally.count_call(Kind::Reading, outcome, right)
     }
 
     // A reset, or mostly a reading. A reset leaves out the draws of a reading.
-    fn one_step(&mut self, p: &Plan, sides: &Sides) -> Result<(), AllocError> {
-        if self.random.draw(12) == 0 {
-            self.random.skip(4);
+    fn one_step(&mut self) -> Result<(), AllocError> {
+        if self.trial.random.draw(12) == 0 {
+            self.trial.random.skip(4);
             gate_window::reset(&mut self.window);
-            self.kept = Kept::new(
-                self.alloc,
-                Window {
-                    last: 0,
-                    lowest: 0,
-                    count: 0,
-                },
-            );
+            self.kept = Kept::new(self.trial.alloc, Window::new());
             return Ok(());
         }
-        let reading = Reading::drawn(&mut self.random, p.network.nodes, sides);
-        self.try_reading(p, reading)
+        let (n, sides) = (self.plan.network.nodes, self.sides);
+        let reading = Reading::drawn(&mut self.trial.random, n, sides);
+        self.try_reading(reading)
     }
 }
 
 // A list on the plan of a file, or sometimes on that beside the refusal of the file without its last byte.
 pub fn try_network(trial: &mut Trial) -> Result<(), AllocError> {
-    let Trial {
-        alloc,
-        random,
-        tally,
-    } = trial;
-    let net = random.network(LAST_NODE, LINKS);
-    let mut apart = random.apart();
-    let file = file_of(*alloc, &net)?;
-    let sides = Sides::if_fits(*alloc, &net)?;
-    let is_cut = apart.last(9) == 9;
+    let alloc = trial.alloc;
+    let net = trial.random.network(LAST_NODE, LINKS);
+    let apart = trial.apart();
+    let file = file_of(alloc, &net)?;
+    let sides = Sides::if_fits(alloc, &net)?;
+    let is_cut = apart.random.last(9) == 9;
     let opened = plan::open(if is_cut { cut(&file) } else { &file });
     let expected = is_cut.then_some(Refusal::EndsEarly);
-    tally.count(
+    apart.tally.count(
         Kind::List,
         opened.err().map(|fault| fault.refusal) == expected,
     )?;
-    let p = opened.unwrap_or(plan::no_plan());
-    let mut run = Run::started(*alloc, apart, tally);
+    let plan = opened.unwrap_or(plan::no_plan());
+    let mut run = Run::started(apart, &plan, &sides);
     for _ in 0..LIST {
-        run.one_step(&p, &sides)?;
+        run.one_step()?;
     }
     Ok(())
 }

@@ -1,6 +1,6 @@
 -- Parts of lists, and lists written into a list.
 use Rattle.std.specs.Prelude.{ℕ, ◌-◌, suc, ◌+◌, zero, ◌≤◌, ◌≡◌, List, [], ◌∷◌, ◌++◌, length, take, drop, set, Bool, true, false}
-use Rattle.std.proofs.Common.{ap, ◌∙◌, sym, append_assoc, le_of_eq, length-drop, length-append, take_all, arith}
+use Rattle.std.proofs.Common.{sym, le_of_eq, length-drop, length-append, take_all, arith}
 use Rattle.std.proofs.lemmas.List.Edits.{sets}
 use Rattle.std.proofs.Math.Seq.{take-nil}
 use Rattle.base.specs.Basics.{pick, at}
@@ -15,18 +15,9 @@ sets_append [] ys l place = let e : place + 0 ≡ place = omega arith in rw e
 sets_append (x ∷ xs) ys l place =
     let e : place + suc (length xs) ≡ suc place + length xs = omega arith in rw e (sets_append xs ys (set l place x) (suc place))
 
--- ---- three runs, one behind the other: l before them, and l₁, l₂, l₃ behind each
+-- ---- three runs, one behind the other
 pub three_long : (A B C : List ℕ) → length A + length B + length C ≡ length (A ++ (B ++ C))
 three_long A B C = simp length-append (omega arith)
-
-module _ (A B C : List ℕ) (place second third : ℕ) (second_is : second ≡ place + length A) (third_is : third ≡ second + length B) where
-  pub three_runs : (l l₁ l₂ l₃ : List ℕ) → l₁ ≡ sets l place A → l₂ ≡ sets l₁ second B → l₃ ≡ sets l₂ third C
-      → l₃ ≡ sets l place (A ++ (B ++ C))
-  three_runs l l₁ l₂ l₃ e₁ e₂ e₃ =
-      let e : third ≡ place + length (A ++ B) = simp length-append (omega arith) in
-      e₃ ∙ ap (λ (r : List ℕ). sets r third C)
-      (e₂ ∙ ap (λ (r : List ℕ). sets r second B) e₁ ∙ ap (λ (k : ℕ). sets (sets l place A) k B) second_is ∙ sets_append A B l place)
-      ∙ ap (λ (k : ℕ). sets (sets l place (A ++ B)) k C) e ∙ sets_append (A ++ B) C l place ∙ ap (sets l place) (append_assoc A B C)
 
 -- ---- a front of a list
 pub drop_take : (i n : ℕ) (l : List ℕ) → drop i (take n l) ≡ take (n - i) (drop i l)

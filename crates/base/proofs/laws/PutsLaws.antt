@@ -1,6 +1,6 @@
 -- Values put into a lent list, one piece behind another, and a piece while it is put.
-use Rattle.std.specs.Prelude.{ℕ, ◌+◌, ◌≡◌, refl, List, [], ◌∷◌, ◌++◌, length, set}
-use Rattle.std.proofs.Common.{sym, ap, ap₂, subst, ◌∙◌, arith, add-one, length-set, length-append}
+use Rattle.std.specs.Prelude.{ℕ, ◌+◌, ◌≡◌, refl, List, [], ◌++◌, length}
+use Rattle.std.proofs.Common.{sym, ap, ap₂, subst, ◌∙◌, arith, length-append}
 use Rattle.std.proofs.lemmas.List.Edits.{sets}
 use Rattle.std.proofs.Math.Seq.{length-sets}
 use Rattle.base.proofs.laws.ListLaws.{sets_append}
@@ -34,15 +34,6 @@ module _ {A : Type 0} {l : List A} {i : ℕ} {xs : List A} where
   -- what is still to be put, said otherwise
   pub owing_same : {j : ℕ} {ys zs m : List A} → ys ≡ zs → Owing l i xs j ys m → Owing l i xs j zs m
   owing_same e h = rw (sym e) h
-
-  -- a value is stored
-  pub owing_byte : {j : ℕ} {y : A} {ys m : List A} → Owing l i xs j (y ∷ ys) m → Owing l i xs (j + 1) ys (set m j y)
-  owing_byte {j} {y} {ys} {m} h =
-      record {
-        ends = omega (arith, h.ends);
-        fills = ap (λ (k : ℕ). sets (set m j y) k ys) (add-one j) ∙ h.fills;
-        size = length-set m j y ∙ h.size;
-      }
 
   -- a piece is put
   pub owing_puts : {j k : ℕ} {ys zs m n : List A} → Owing l i xs j (ys ++ zs) m → Puts m j ys k n → Owing l i xs k zs n

@@ -1,7 +1,6 @@
 -- Tests over all places, and lists of tests.
 use Rattle.std.specs.Prelude.{◌≡◌, refl, Bool, true, false, ℕ, zero, suc, ◌+◌, ◌<◌, List, [], ◌∷◌, eqb}
 use Rattle.std.proofs.Common.{sym, ◌∙◌, true≢false, arith, add-one, ne_eqb}
-use Rattle.std.proofs.Math.Bool.{and-true}
 use Rattle.std.proofs.Math.Decide.{ℕ_discrete}
 use Rattle.base.specs.Basics.{all, every}
 use Rattle.base.proofs.laws.Bools.{and_l, and_r, both}
@@ -61,18 +60,6 @@ rest (e & h) = h
 -- the first test as it was
 pub keep : {x : Bool} {xs ys : List Bool} → (Every xs → Every ys) → Every (x ∷ xs) → Every (x ∷ ys)
 keep f (e & h) = e & f h
-
--- a list of tests worked through in order, as code does: the first that fails settles it, and the last may be answered as it is
-pub data Settled : List Bool → Bool → Type 0 where
-  fail : {x : Bool} {xs : List Bool} → x ≡ false → Settled (x ∷ xs) false
-  pass : {x b : Bool} {xs : List Bool} → x ≡ true → Settled xs b → Settled (x ∷ xs) b
-  last : {x b : Bool} → b ≡ x → Settled (x ∷ []) b
-
-pub settled : {xs : List Bool} {b : Bool} → Settled xs b → b ≡ every xs
-unfolding every
-settled (fail e) = rw e
-settled (pass e s) = rw e (settled s)
-settled (last {x} e) = e ∙ sym (and-true x)
 
 -- ---- a test of two numbers, turned
 pub eqb_turned : (x y : ℕ) → eqb x y ≡ eqb y x

@@ -1,4 +1,5 @@
--- The loop that works a tree out, before step s: its invariant and that invariant's laws. A rebuild and a first build are this loop.
+-- The loop that works a tree out, before step s: its invariant and that invariant's laws. A rebuild and a first build
+-- are this loop.
 use Rattle.std.specs.Prelude.{◌≡◌, ℕ, suc, ◌+◌, ◌-◌, ◌≤◌, ◌<◌, Option, None, Some}
 use Rattle.std.proofs.Common.{refl, sym, ap, subst, ◌∙◌, arith}
 use Rattle.std.proofs.Math.Path.{fun_ext}
@@ -14,7 +15,7 @@ use Rattle.cut_tree.proofs.laws.RuleLaws.{stepped_le}
 use Rattle.base.proofs.laws.BlankLaws.{zeros_at}
 use Rattle.network.specs.Limits.{max_nodes}
 use Rattle.cut_tree.proofs.laws.TakingLaws.{kept_gives}
-use Rattle.cut_tree.specs.code.RebuildParts.{Gives, kept_or_least, kept, step_of, crossed, survived}
+use Rattle.cut_tree.specs.code.RebuildParts.{Gives, kept_or_least, kept, step_of, survived}
 use Rattle.cut_tree.specs.declared.keep.Change.{Change}
 use Rattle.cut_tree.specs.declared.Steps.{Steps}
 use Rattle.cut_tree.specs.declared.Tree.{Tree}
@@ -66,7 +67,8 @@ module _ (net : Network) (returns : ℕ → ℕ → Option Cut → Type 0) where
       low_parents a =
           stepped_le s b s t (cut_of a) (omega arith) (omega (arith, g.parents s)) (λ j. omega (arith, g.parents j))
 
-      going_next : (a : ℕ) → a ≤ 1 → cut_of a ≡ kept_or_least net s t r → Going net returns (after (b.count + a)) (s + 1)
+      going_next : (a : ℕ) → a ≤ 1 → cut_of a ≡ kept_or_least net s t r
+          → Going net returns (after (b.count + a)) (s + 1)
       going_next a one e =
           let q : suc (s - 1) ≡ s = omega (arith, g.low) in
           let z : s + 1 - 1 ≡ s = omega arith in
@@ -85,7 +87,8 @@ module _ (net : Network) (returns : ℕ → ℕ → Option Cut → Type 0) where
           let z : count ≡ b.count + 0 = omega (arith, ec) in
           rw z (going_next 0 (omega arith) (rw e refl))
 
-      pub going_least : r ≡ None → k ≡ least_cut_of net s t → (count : ℕ) → count ≡ b.count + 1 → Going net returns (after count) (s + 1)
+      pub going_least : r ≡ None → k ≡ least_cut_of net s t → (count : ℕ) → count ≡ b.count + 1
+          → Going net returns (after count) (s + 1)
       unfolding least_cut least_cut_of
       going_least e ek count ec = rw ec (going_next 1 (omega arith) (rw (e, ek) refl))
 
@@ -102,13 +105,14 @@ module _ (net : Network) (steps : Steps) (k d : ℕ) where
   unfolding rebuilt rebuilt_by
   link_rebuilt = refl
 
-  same_test : (h : Change) → h.a ≡ at net.a k → h.b ≡ at net.b k → h.old ≡ at net.capacity k → h.new ≡ d
+  same_test : (h : Change)
+      → h.link.a ≡ at net.a k → h.link.b ≡ at net.b k → h.link.capacity ≡ at net.capacity k → h.new ≡ d
       → (side value : ℕ) → survived h side value ≡ link_test net k d side value
-  unfolding survived crossed
+  unfolding survived
   same_test h ea eb ec ed side value = rw (ea, eb, ec, ed) refl
 
   pub link_gives : (s t : ℕ) (r : Option Cut) (h : Change) → r ≡ kept h (step_of steps s) t
-      → h.a ≡ at net.a k → h.b ≡ at net.b k → h.old ≡ at net.capacity k → h.new ≡ d
+      → h.link.a ≡ at net.a k → h.link.b ≡ at net.b k → h.link.capacity ≡ at net.capacity k → h.new ≡ d
       → kept_or_least (with_capacity net k d) s t r ≡ link_cuts s t
   link_gives s t r h e ea eb ec ed =
       let f : survived h ≡ link_test net k d = fun_ext (λ side. fun_ext (λ value. same_test h ea eb ec ed side value)) in

@@ -1,4 +1,5 @@
--- Laws of the pair query: the edge found by two climbs is the lightest on the tree path, the lowest number among equals.
+-- Laws of the pair query: the edge found by two climbs is the lightest on the tree path, the lowest number among
+-- equals.
 use Rattle.std.specs.Prelude.{ℕ, zero, suc, ◌≤◌, ◌<◌, ◌≡◌, ◌≢◌, refl, Bool, true, false, not, ◌&&◌, ◌||◌, List, [], ◌∷◌}
 use Rattle.std.specs.Prelude.{Option, None, Some, min, ltb, eqb}
 use Rattle.std.proofs.Common.{sym, ap, ◌∙◌, true≢false, arith, eq-eqb, ne_eqb, lt-ltb, le-ltb}
@@ -16,14 +17,14 @@ use Rattle.cut_tree.specs.Path.{max_climb, reaches, Climbs, climb, under, on_pat
 use Rattle.cut_tree.specs.Path.{query_number, query_of}
 use Rattle.cut_tree.proofs.laws.MemberLaws.{among_head, among_later, among_on}
 use Rattle.cut_tree.specs.code.QueryParts.{IsNode, climb_to, added_all, lighter, lightest_from}
-use Rattle.cut_tree.proofs.laws.ClimbLaws.{rooted_lt, rooted_next, climb_nonzero, climb_closed, climb_to_among}
-use Rattle.cut_tree.proofs.laws.ClimbLaws.{climb_end, climb_none, climb_on, climb_to_end, climb_to_none, climb_to_stop, climb_to_on}
+use Rattle.cut_tree.proofs.laws.ClimbLaws.{rooted_lt, rooted_next, climb_closed, climb_to_among}
+use Rattle.cut_tree.proofs.laws.ClimbLaws.{climb_end, climb_none, climb_on, climb_to_end, climb_to_none, climb_to_stop}
 use Rattle.cut_tree.specs.Answer.{BothEnds}
 use Rattle.cut_tree.proofs.laws.PathLaws.{lowest_lightest}
 use Rattle.cut_tree.proofs.laws.SideLaws.{side_lt}
 use Rattle.cut_tree.proofs.laws.LightestLaws.{Met, none_met, met_from, met_lightest}
 use Rattle.std.specs.Prelude.{Result, IsErrAnd}
-use Rattle.std.proofs.lemmas.Result.{err_from_is_err_and}
+use Rattle.base.proofs.laws.ResultLaws.{exit_of}
 use Rattle.network.specs.Refusals.{refusal_number}
 use Rattle.network.proofs.laws.RefusalLaws.{refusal_some}
 use Rattle.network.specs.declared.refusals.Refusal.{Refusal}
@@ -164,7 +165,9 @@ module _ (n : ℕ) (parent : List ℕ) (c : Climbs n parent) (stop : ℕ) where
   climb_to_below : (left i : ℕ) → i < n → (x : ℕ) → among x (climb_to stop parent left i) ≡ true → x < max_nodes
   unfolding climb_to among
   climb_to_below zero i h x m = absurd (true≢false (sym m))
-  climb_to_below (suc left) i h x m = go (eqb i 0) (holds stop i) (ℕ_discrete x i) m (climb_to_below left (at parent i) (rooted_next c i h) x)
+  climb_to_below (suc left) i h x m =
+      let further = climb_to_below left (at parent i) (rooted_next c i h) x in
+      go (eqb i 0) (holds stop i) (ℕ_discrete x i) m further
     where
       go : (y z : Bool) → Dec (x ≡ i) → among x (pick y [] (pick z [] (i ∷ climb_to stop parent left (at parent i)))) ≡ true
           → (among x (climb_to stop parent left (at parent i)) ≡ true → x < max_nodes) → x < max_nodes
@@ -213,10 +216,10 @@ module _ (tree : Tree) (n s t : ℕ) where
     answered z v x size ev ex es =
         rw (sym e ∙ z, es.members n (rw ex (side_lt tree.parent n v s)), ex, ev)
 
-pub query_err : (tree : Tree) (n s t : ℕ) (e : Refusal) (r : Result PairFound Refusal) → refusal_number e ≡ query_number n s t
-    → IsErrAnd r (λ f. f ≡ e) → as_answer r ≡ query_of tree n s t
+pub query_err : (tree : Tree) (n s t : ℕ) (e : Refusal) (r : Result PairFound Refusal)
+    → refusal_number e ≡ query_number n s t → IsErrAnd r (λ f. f ≡ e) → as_answer r ≡ query_of tree n s t
 query_err tree n s t e r q h =
-    let p = err_from_is_err_and r h in rw (p.1, p.2) (query_refused tree n s t (refusal_number e) q (refusal_some e))
+    exit_of as_answer r e _ h (query_refused tree n s t (refusal_number e) q (refusal_some e))
 
 -- the answers from both ends: refused alike, or given
 module _ (tree : Tree) (n s t : ℕ) (P : PairAnswer → PairAnswer → Type 0) where

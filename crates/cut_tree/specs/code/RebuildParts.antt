@@ -13,7 +13,7 @@ use Rattle.cut_tree.specs.Rebuild.{KeepTest, survives}
 use Rattle.cut_tree.specs.declared.Steps.{Steps}
 use Rattle.cut_tree.specs.Rule.{StepCut}
 use Rattle.cut_tree.specs.declared.keep.Change.{Change}
-use Rattle.cut_tree.specs.declared.keep.OldStep.{OldStep}
+use Rattle.cut_tree.specs.declared.Recorded.{Recorded}
 
 -- ---- a step
 -- the parent p of a node of the side: s in place of t
@@ -32,25 +32,25 @@ Gives net returns cut =
 
 -- ---- the keeping test
 -- what is recorded of step s
-abbrev pub step_of : Steps → ℕ → OldStep
-step_of steps s = record { pivot = at steps.pivot s; side = at steps.side s; value = at steps.value s }
+abbrev pub step_of : Steps → ℕ → Recorded
+step_of steps s = record { pivot = at steps.pivot s; cut = record { side = at steps.side s; value = at steps.value s } }
 
-unfoldable pub crossed : Change → (side : ℕ) → Bool
-crossed h side = differ (holds side h.a) (holds side h.b)
+abbrev pub crossed : Change → (side : ℕ) → Bool
+crossed h side = differ (holds side h.link.a) (holds side h.link.b)
 
 -- the link's keeping test
 unfoldable pub survived : Change → KeepTest
-survived h side value = survives (crossed h side) value h.old h.new
+survived h side value = survives (crossed h side) value h.link.capacity h.new
 
-unfoldable pub step_kept : Change → OldStep → ℕ → Bool
-step_kept h o t = eqb o.pivot t && survived h o.side o.value
+unfoldable pub step_kept : Change → Recorded → ℕ → Bool
+step_kept h o t = eqb o.pivot t && survived h o.cut.side o.cut.value
 
 -- the cut of a step, its value less by the fall
-abbrev pub kept_cut : Change → OldStep → Cut
-kept_cut h o = record { side = o.side; value = o.value - (h.old - h.new) }
+abbrev pub kept_cut : Change → Recorded → Cut
+kept_cut h o = record { side = o.cut.side; value = o.cut.value - (h.link.capacity - h.new) }
 
 -- it, where the step is kept
-unfoldable pub kept : Change → OldStep → ℕ → Option Cut
+unfoldable pub kept : Change → Recorded → ℕ → Option Cut
 kept h o t = pick (step_kept h o t) (Some (kept_cut h o)) None
 
 -- ---- the change

@@ -1,11 +1,17 @@
--- Laws of the nodes that lead to a ring, as a loop gathers them: the lowest node of the ring that is left comes next.
+-- Laws of the nodes that lead to a ring, as a fold gathers them: the lowest node of the ring that is left comes next.
 use Rattle.std.proofs.Common.{◌≡◌, Bool, true, false, ltb, refl, sym, ap, ◌∙◌, true≢false, arith}
-use Rattle.std.proofs.Common.{ltb-true, ltb-false, ℕ, zero, suc, ◌≤◌, ◌<◌}
+use Rattle.std.proofs.Common.{ltb-true, ltb-false, ℕ, zero, suc, ◌≤◌, ◌<◌, List, [], ◌∷◌, None, subst}
+use Rattle.std.specs.Fn.{Called}
+use Rattle.std.specs.Iterator.{Drains, YieldsThen}
+use Rattle.std.specs.List.{FoldsTo}
+use denote.Param.Members.{Mut}
 use Rattle.std.proofs.Math.Decide.{ℕ_discrete}
 use Rattle.base.specs.Word.{holds}
 use Rattle.base.specs.Basics.{at}
 use Rattle.network.specs.Limits.{max_nodes}
 use Rattle.node_set.specs.Set.{empty, removed, union, Lowest}
+use Rattle.node_set.specs.code.Members.{TakesLowest}
+use Rattle.node_set.specs.declared.members.Members.{Members}
 use Rattle.node_set.proofs.theorems.Members.{holds_empty, removed_same, removed_other}
 use Rattle.flow_hints.specs.code.Hints.{leading_below, leading_to}
 use Rattle.flow_hints.specs.declared.hints.Hints.{Hints}
@@ -30,19 +36,19 @@ module _ (hints : Hints) (nodes : ℕ) where
   leading_node v h = rw h
 
   -- what the nodes below `seen` give is gathered, and the others are left
-  pub record Gathered (all rest : ℕ) : Type 0 where
+  record Gathered (all rest : ℕ) : Type 0 where
     pub seen : ℕ
     pub within : seen ≤ max_nodes
     pub gathered : all ≡ leading_below hints nodes seen
     pub gone : (j : ℕ) → j < seen → holds rest j ≡ false
     pub left : (j : ℕ) → seen ≤ j → holds rest j ≡ holds nodes j
 
-  pub gathered_none : Gathered 0 nodes
+  gathered_none : Gathered 0 nodes
   unfolding leading_below
   gathered_none =
       record { seen = 0; within = omega arith; gathered = refl; gone = λ j l. absurd (omega arith); left = λ j l. refl }
 
-  pub gathered_more : (all rest v : ℕ) → Gathered all rest → Lowest rest v
+  gathered_more : (all rest v : ℕ) → Gathered all rest → Lowest rest v
       → Gathered (union all (at hints.into v)) (removed rest v)
   gathered_more all rest v g w =
       record { seen = suc v; within = w.small; gathered = more; gone = gone; left = left }
@@ -70,6 +76,25 @@ module _ (hints : Hints) (nodes : ℕ) where
       left : (j : ℕ) → suc v ≤ j → holds (removed rest v) j ≡ holds nodes j
       left j l = removed_other rest v j (λ e. omega arith) ∙ g.left j (omega (arith, from))
 
-  pub gathered_all : (all : ℕ) → Gathered all empty → all ≡ leading_to hints nodes
+  gathered_all : (all : ℕ) → Gathered all empty → all ≡ leading_to hints nodes
   gathered_all all g =
       g.gathered ∙ sym (leading_skip g.seen max_nodes g.within (λ j a b. sym (g.left j a) ∙ holds_empty j))
+
+  -- what a fold over the nodes gives, whose closure puts in what leads to each
+  module _ {F : Type 0} (g : Mut F (ℕ × (ℕ × Unit {0})) ℕ) {f : F}
+      (each : (all v r : ℕ) (q : F) → Called g f (all, (v, tt)) r q → (q ≡ f) × (r ≡ union all (at hints.into v))) where
+    gathers : (xs : List ℕ) (s u : Members) (p q : F × ℕ) → p.0 ≡ f → Gathered p.1 s.rest
+        → YieldsThen TakesLowest s xs None u → FoldsTo {P = F × ℕ} (λ a x b. Called g a.0 (a.1, (x, tt)) b.1 b.0) p xs q
+        → q.1 ≡ leading_to hints nodes
+    gathers [] s u p q e o y c =
+        sym (ap (λ w. w.1) c) ∙ gathered_all p.1 (rw (ap (λ m. m.rest) y.1 ∙ y.2.0) at o)
+    gathers (x ∷ xs) s u p q e o y c =
+        let m = each p.1 x c.0.1 c.0.0 (subst (λ w. Called g w (p.1, (x, tt)) c.0.1 c.0.0) e c.1) in
+        let more : Gathered c.0.1 y.1.0.rest = rw (m.1, y.1.1.1) (gathered_more p.1 s.rest x o y.1.1.0) in
+        gathers xs y.1.0 u c.0 q m.0 more (y.0, y.1.2, y.2) c.2
+
+    pub gathers_all : (s : Members) (r : ℕ) → s.rest ≡ nodes
+        → (xs : List ℕ) × (q : F) × Drains TakesLowest s xs
+        × FoldsTo {P = F × ℕ} (λ a x b. Called g a.0 (a.1, (x, tt)) b.1 b.0) (f, 0) xs (q, r)
+        → r ≡ leading_to hints nodes
+    gathers_all s r e d = gathers d.0 s d.2.0 (f, 0) (d.1, r) refl (rw e gathered_none) d.2.1 d.3

@@ -1,5 +1,7 @@
 -- What the writer of a listing adds, one piece behind another.
-use Rattle.std.proofs.Common.{◌≡◌, ℕ, ◌+◌, ◌-◌, ◌≤◌, List, ◌++◌, length, ◌∙◌, arith, append_assoc, drop-drop, length-append}
+use Rattle.std.specs.Prelude.{◌≡◌, ℕ, ◌+◌, ◌-◌, ◌≤◌, List, ◌++◌, length, take, drop}
+use Rattle.std.proofs.Common.{◌∙◌, arith, append_assoc, drop-drop, length-append}
+use Rattle.std.proofs.lemmas.Grind.{common_steps}
 use Rattle.std.proofs.lemmas.List.Edits.{sets, sets-eq}
 use borrow.Rule.Slice.PartMut.{put_mid}
 use Rattle.base.proofs.laws.PutsLaws.{puts_length, puts_then, puts_same}
@@ -7,10 +9,16 @@ use Rattle.listing.specs.code.Adds.{Adds, Room}
 use Rattle.listing.specs.declared.line.Lines.{Lines}
 
 -- a part that is copied over
-pub put_mid_is : (i : ℕ) (ys xs : List ℕ) → i + length ys ≤ length xs → put_mid i (i + length ys - i) xs ys ≡ sets xs i ys
+pub put_mid_is : (i : ℕ) (ys xs : List ℕ) → i + length ys ≤ length xs
+    → put_mid i (i + length ys - i) xs ys ≡ sets xs i ys
 put_mid_is i ys xs b =
     let e : i + length ys - i ≡ length ys = omega arith in
     rw (e, sets-eq ys xs i b, drop-drop (length ys) i xs, append_assoc)
+
+-- a front of the rest that is written over
+pub put_end_is : (i : ℕ) (ys xs : List ℕ) → i + length ys ≤ length xs
+    → put_mid i (length xs - i) xs (ys ++ drop (length ys) (take (length xs - i) (drop i xs))) ≡ sets xs i ys
+put_end_is i ys xs b = let s = sets-eq ys xs i b in grind (arith, common_steps, s)
 
 pub adds_then : {l m n : Lines} {xs ys : List ℕ} → Adds l xs m → Adds m ys n → Adds l (xs ++ ys) n
 adds_then p q = record { same = q.same ∙ p.same; puts = puts_then p.puts q.puts }

@@ -9,7 +9,7 @@ use Rattle.min_cut.proofs.code.Arcs.{reached_least, shut_closed}
 use Rattle.base.specs.Basics.{at}
 use Rattle.network.specs.Limits.{max_nodes, max_value}
 use Rattle.network.specs.Network.{graph, least_side, min_cut_value}
-use Rattle.network.proofs.laws.NetworkLaws.{nodes_le, ends_within, value_le}
+use Rattle.network.proofs.laws.NetworkLaws.{ends_within, value_le}
 use Rattle.network.specs.declared.Network.{Network}
 use Rattle.max_flow.specs.LeastCut.{Endpoints, least_cut_of}
 use Rattle.max_flow.specs.GrowingFlow.{ahead, back, flow_in}
@@ -33,9 +33,6 @@ module _ {net : Network} {s t : ℕ} (a : Endpoints net s t) where
             f.flow.lawful (λ i. eqb i s) (eq-eqb s s refl) (ne_eqb t s (λ e. a.apart (sym e))) v f.flow.total,
         value_le net a.fits (λ i. eqb i s),
       )
-
-  pub ends_lt : (s < max_nodes) × (t < max_nodes)
-  ends_lt = (omega (arith, a.source, nodes_le net a.fits), omega (arith, a.sink, nodes_le net a.fits))
 
   module _ {v : ℕ} {r : List (List ℕ)} {w : SearchTree} (f : Flowing net s t v r) (o : Searched net r s t w) where
     -- what can be sent to the node reached last

@@ -23,8 +23,8 @@ use Rattle.max_flow.specs.declared.search.SearchTree.{SearchTree}
 use Rattle.max_flow.specs.code.Scan.{Done, Fresh, Inner, Looking, Outer, Placed}
 
 pub ready : (ends : Ends)
-    → Ready ends.prepared.now.network ends.prepared.now.arcs.first ends.prepared.now.arcs.next ends.prepared.now.arcs.to
-    ends.s ends.t
+    → Ready ends.prepared.now.net.network ends.prepared.now.arcs.first ends.prepared.now.arcs.next
+    ends.prepared.now.arcs.to ends.s ends.t
 ready ends = record { ends = ends.two; chains = ends.prepared.now.chains }
 
 module _ {net : Network} {first next : List ArcLink} {to : List ℕ} {s t : ℕ} (a : Ready net first next to s t) where
@@ -45,16 +45,6 @@ module _ {net : Network} {first next : List ArcLink} {to : List ℕ} {s t : ℕ}
       })
 
   module _ {r : List (List ℕ)} {w : SearchTree} {i : ℕ} (o : Outer net r s t w i) where
-    pub outer_end : w.count ≤ i → Searched net r s t w
-    outer_end l =
-        record {
-          tree = o.tree;
-          hit = λ q. absurd (true≢false (sym q ∙ o.missed));
-          miss = λ q e el z y.
-              let k = o.tree.listed (tail (graph net) e) y in
-              o.behind k.0 (omega (arith, k.1)) e el (omega arith) (sym k.2) z;
-        }
-
     pub placed : i < w.count → Placed w i
     placed l =
         record { place = place_lt o.tree h i l; node = node_lt o.tree h i l }

@@ -5,7 +5,7 @@ use Rattle.std.proofs.Math.Decide.{ℕ_discrete}
 use Rattle.min_cut.specs.Cut.{Net}
 use Rattle.base.specs.Word.{holds}
 use Rattle.min_cut.specs.code.Residual.{Pushed}
-use Rattle.min_cut.proofs.code.Residual.{when_none, when_add}
+use Rattle.min_cut.proofs.code.Residual.{when_add}
 use Rattle.min_cut.specs.code.Arcs.{tail, tip, spare, forward}
 use Rattle.network.specs.Limits.{max_arcs}
 use Rattle.network.specs.Network.{network_fits, graph}
@@ -62,10 +62,10 @@ pub record Way (net : Network) (r : List (List ℕ)) (on u x j d : ℕ) : Type 0
 
 -- a step that leads on, by an arc with room, is a way for all that the arc has room for
 pub way : (sender : Sender) (load : Load) (step : Step) {r : List (List ℕ)} {spare : ℕ}
-    → Balanced sender.prepared.now.network r → Onward sender load step → spare ≡ room_of r step.arc
-    → 0 < room_of r step.arc → Way sender.prepared.now.network r load.on load.node step.node step.arc spare
+    → Balanced sender.prepared.now.net.network r → Onward sender load step → spare ≡ room_of r step.arc
+    → 0 < room_of r step.arc → Way sender.prepared.now.net.network r load.on load.node step.node step.arc spare
 way sender load step {r} b o e p =
-    let net : Network = sender.prepared.now.network in
+    let net : Network = sender.prepared.now.net.network in
     let leads = sender.prepared.now.chains.leads in
     let room = spare_read r step.arc in
     let h : step.arc < 2 * net.links = arc_here b step.arc step.arc_within (omega (arith, room, p)) in
@@ -79,15 +79,6 @@ way sender load step {r} b o e p =
 
 -- ---- what is sent
 module _ {net : Network} {t on u : ℕ} where
-  -- nothing yet
-  pub send_none : {limit : ℕ} {r : List (List ℕ)} → Balanced net r → Sends net t on u limit 0 r r
-  send_none b =
-      record {
-        within = omega arith;
-        sent = sent_by b b (λ X. omega (arith, when_none (X u), when_none (X t)));
-        kept = λ e h. omega arith;
-      }
-
   -- more, of what is left of the limit
   pub send_more : {limit sent left d : ℕ} {r r1 r2 : List (List ℕ)} → Balanced net r
       → Sends net t on u limit sent r r1 → Sends net t on u left d r1 r2 → left ≡ limit - sent

@@ -1,10 +1,10 @@
 -- Laws of the residual capacities: what the code reads, the start, one arc along which more is sent.
 use Rattle.std.proofs.Common.{◌≡◌, ◌≢◌, Bool, set, length, refl, ap, ◌∙◌, arith, get_or-set_same, true, false}
 use Rattle.std.proofs.Common.{cond, List, [], ◌∷◌, ℕ, zero, suc, ◌+◌, ◌*◌, ◌/◌, ◌%◌, ◌<◌, ◌≤◌, get_or, length-set}
-use Rattle.std.proofs.Common.{get_or-set_other, eqb-true, sym, ext_get_or}
+use Rattle.std.proofs.Common.{get_or-set_other, eqb-true}
 use Rattle.std.proofs.lemmas.List.{length-replicate, get_or-replicate}
 use Rattle.std.proofs.lemmas.Bool.{eqb-false}
-use Rattle.std.proofs.Math.Decide.{ℕ_discrete, dec_lt}
+use Rattle.std.proofs.Math.Decide.{ℕ_discrete}
 use Rattle.base.proofs.laws.SumLaws.{sum_ext}
 use Rattle.min_cut.specs.code.Residual.{residual, ResidualFlow, Pushed, At}
 use Rattle.min_cut.proofs.code.Residual.{start, push_ahead, push_back}
@@ -12,7 +12,7 @@ use Rattle.min_cut.specs.code.Arcs.{tail, tip, spare, forward}
 use Rattle.base.specs.Basics.{at}
 use Rattle.network.specs.Limits.{max_links, max_arcs}
 use Rattle.network.specs.Network.{network_fits, graph}
-use Rattle.network.proofs.laws.NetworkLaws.{links_le, capacity_le, capacity_none}
+use Rattle.network.proofs.laws.NetworkLaws.{links_le, capacity_le}
 use Rattle.network.specs.declared.Network.{Network}
 use Rattle.max_flow.specs.GrowingFlow.{ahead, back}
 use Rattle.max_flow.specs.code.Residuals.{room_on, row_after, sent_along, full_up_to, full_residual}
@@ -50,20 +50,6 @@ module _ (net : Network) where
   unfolding full_up_to
   full_rest zero j l m = let row : List ℕ = 0 ∷ 0 ∷ [] in get_or-replicate max_links j row [] m
   full_rest (suc k) j l m = get_or-set_other (full_up_to net k) k j _ [] (λ e. omega arith) ∙ full_rest k j (omega arith) m
-
-  -- a row of its capacity for each place is the start: an unused place has none
-  pub full_rows : network_fits net ≡ true → (rows : List (List ℕ)) → length rows ≡ max_links
-      → ((k : ℕ) → k < max_links → get_or rows k [] ≡ at net.capacity k ∷ at net.capacity k ∷ []) → rows ≡ full_residual net
-  full_rows h rows long each =
-      ext_get_or [] rows (full_residual net) (long ∙ sym (full_long net.links))
-      (λ k l. let m : k < max_links = omega (arith, long) in each k m ∙ sym (row k m (dec_lt k net.links)))
-    where
-      row : (k : ℕ) → k < max_links → Dec (k < net.links)
-          → get_or (full_residual net) k [] ≡ at net.capacity k ∷ at net.capacity k ∷ []
-      row k m (yes l) = full_at net.links k l (links_le net h)
-      row k m (no n) =
-          let l : net.links ≤ k = omega arith in
-          rw (capacity_none net h k l) (full_rest net.links k l m)
 
   -- the capacity stands in the row
   pub full_ahead : network_fits net ≡ true → (k : ℕ) → k < net.links → ahead (full_residual net) k ≡ at net.capacity k

@@ -15,4 +15,4 @@ pub record Onward (sender : Sender) (load : Load) (step : Step) : Type 0 where
 
 -- d of the load is sent from its node to the sender's sink, which leaves r' of r
 abbrev pub SendsLoad : Sender → Load → ℕ → (r r' : List (List ℕ)) → Type 0
-SendsLoad sender load d r r' = Sends sender.prepared.now.network sender.t load.on load.node load.limit d r r'
+SendsLoad sender load d r r' = Sends sender.prepared.now.net.network sender.t load.on load.node load.limit d r r'

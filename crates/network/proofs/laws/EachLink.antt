@@ -4,7 +4,8 @@ use Rattle.std.specs.Fn.{Called}
 use Rattle.std.specs.List.{fold, sum_by}
 use Rattle.std.specs.Iterator.{Drains}
 use Rattle.std.specs.Iterator.Runs.{EachRunFrom}
-use Rattle.std.specs.Iterator.Adapters.{map_source, map_callee}
+use Rattle.std.specs.Iterator.Adapters.{map_source, map_callee, enumerate_steps}
+use Rattle.std.specs.declared.iter.Enumerate.{Enumerate}
 use Rattle.std.specs.declared.iter.Map.{Map}
 use Rattle.std.proofs.Common.{ap, ◌∙◌, arith}
 use Rattle.std.proofs.lemmas.Iterator.{YieldsList, YieldsList-from_map, maps}
@@ -49,8 +50,28 @@ module _ {net : ValidNetwork} {s : Links} (g : Gives net s) where
       let link : IsLink net.network s.come _ = rw g.of at h.0 in
       (link, record { of = ap (λ r. r.now) h.1 ∙ g.of; some = omega (arith, link.some, h.2) })
 
-  pub gives_none : {t : Links} → TakesLink s None t → s.come ≡ net.network.links
-  gives_none h = let end : net.network.links ≤ s.come = rw g.of at h.0 in omega (arith, g.some)
+-- ---- the same, with the links counted
+pub record Numbered (net : ValidNetwork) (links : Enumerate Links) : Type 0 where
+  pub given : Gives net links.iter
+  pub number : links.count ≡ links.iter.come
+
+-- what such a loop finds in a turn: link k, whose number is k
+pub record Turn (net : ValidNetwork) (before : Enumerate Links) (k : ℕ) (link : Link) (behind : Enumerate Links) : Type 0 where
+  pub place : k ≡ before.iter.come
+  pub is : IsLink net.network before.iter.come link
+  pub come : behind.iter.come ≡ before.iter.come + 1
+  pub next : Numbered net behind
+
+pub turns : {net : ValidNetwork} {s t : Enumerate Links} {k : ℕ} {l : Link} → Numbered net s
+    → enumerate_steps TakesLink s (Some (k, l)) t → Turn net s k l t
+turns o turn =
+    let g = gives_one o.given turn.0 in
+    record {
+      place = turn.1 ∙ o.number;
+      is = g.0;
+      come = turn.0.2;
+      next = record { given = g.1; number = omega (arith, turn, o.number) };
+    }
 
 -- ---- the links as a list
 -- n links from link k on

@@ -51,6 +51,9 @@ module _ (net : Network) (e : network_fits net ≡ true) where
       let unused = head (rest (rest (rest (rest (rest (rest (shown _ e))))))) in
       blank_above net.links net.capacity unused k l
 
+-- what an index is within
+pub ruleset limits = (nodes_le, links_le)
+
 crossing_le : (c : ℕ) (x y : Bool) → crossing x y c ≤ c
 crossing_le c = bool2 _ (omega arith)
 

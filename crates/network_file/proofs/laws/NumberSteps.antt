@@ -1,8 +1,7 @@
 -- Numbers in the steps of the code: what it returns at each of its tests.
 use Rattle.std.specs.Prelude.{ℕ, zero, suc, ◌+◌, ◌-◌, ◌/◌, ◌%◌, ◌^◌, ◌≤◌, ◌<◌, ◌≡◌, refl, ◌≢◌, List, [], ◌∷◌, length}
-use Rattle.std.proofs.Common.{sym, ap, subst, ◌∙◌, arith, lt_of_lt_of_le, add-one}
+use Rattle.std.proofs.Common.{sym, ap, ◌∙◌, arith, lt_of_lt_of_le}
 use Rattle.std.proofs.Math.Nat.{one-le-pow, pow-le-pow_right}
-use Rattle.base.specs.Basics.{at}
 use Rattle.network.specs.Limits.{max_groups}
 use Rattle.network_file.specs.Number.{continued, read_groups, value_in, size_in, group_bytes, Bytes}
 use Rattle.network_file.proofs.laws.NumberLaws.{read_last, read_more, last_group, more_groups, Seen, sees_one, sees_two, sees_three}
@@ -42,13 +41,11 @@ seen_small most t b (sees_two h) = record { value = one-le-pow most 128 (omega a
 seen_small most t b (sees_three h) = record { value = one-le-pow most 128 (omega arith); size = omega arith }
 seen_small most t b (sees_value g l) = record { value = (again g b most l).small; size = l }
 
-pub rest_small : (left : ℕ) (s : List ℕ) (x : ℕ) (t : List ℕ) → Bytes s → left ≤ max_groups → s ≡ x ∷ t
-    → Small (max_groups - 1) (read_groups (left - 1) t)
-rest_small left s x t b l e =
-    let rest : Bytes t = λ i. rw add-one at (subst (λ (s : List ℕ). at s (i + 1) < 256) e (b (i + 1))) in
-    let h = seen_small (left - 1) t rest (seen (left - 1) t) in
-    let p : 128 ^ (left - 1) ≤ 128 ^ (max_groups - 1) =
-    pow-le-pow_right {n = 128} (omega arith) {i = left - 1} {j = max_groups - 1} (omega arith) in
+pub groups_small : (left : ℕ) (t : List ℕ) → Bytes t → left < max_groups → Small (max_groups - 1) (read_groups left t)
+groups_small left t b l =
+    let h = seen_small left t b (seen left t) in
+    let p : 128 ^ left ≤ 128 ^ (max_groups - 1) =
+    pow-le-pow_right {n = 128} (omega arith) {i = left} {j = max_groups - 1} (omega arith) in
     record { value = lt_of_lt_of_le h.value p; size = omega (arith, h.size) }
 
 -- ---- writing

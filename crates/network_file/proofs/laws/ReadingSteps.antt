@@ -1,8 +1,7 @@
 -- Reading in the steps of the code: numbers taken one behind the other, each with its row; and the link, the file and the reply by them.
 use Rattle.std.specs.Prelude.{ℕ, zero, suc, ◌+◌, ◌≤◌, ◌<◌, ◌≡◌, ◌≢◌, Bool, true, false, not, ◌||◌, List, length, drop, ltb, eqb}
-use Rattle.std.specs.Prelude.{Result, Ok, Err, MatchResult, IsErrAnd}
+use Rattle.std.specs.Prelude.{Result, Ok, Err, MatchResult}
 use Rattle.std.proofs.Common.{refl, sym, ap, subst, ◌∙◌, true≢false, arith, lt-ltb, le-ltb, ltb-false, length-drop}
-use Rattle.std.proofs.lemmas.Result.{err_from_is_err_and}
 use Rattle.base.specs.Checks.{check, accepted}
 use Rattle.base.proofs.laws.ChecksLaws.{below, not_above, passed_row, refused_by}
 use Rattle.network.specs.Limits.{max_nodes, max_links, max_groups}
@@ -14,7 +13,7 @@ use Rattle.network.proofs.laws.RefusalLaws.{refusal_some}
 use Rattle.network_file.specs.Number.{Number, Value, Refused, read_number, refusal_in, value_in, size_in}
 use Rattle.network_file.specs.Reading.{nodes_row, links_row, end_row, other_end_row, no_number, a_number, taken, taking, no_link, link_at}
 use Rattle.network_file.specs.Reading.{stopped, going, unread, after, read_links, ended, read_all}
-use Rattle.network_file.specs.Reading.{Taken, Link, Progress}
+use Rattle.network_file.specs.Reading.{read_by, Taken, Link, Progress, Reading}
 use Rattle.network_file.specs.declared.Fault.{Fault}
 use Rattle.network_file.proofs.laws.NumberLaws.{Seen, sees_one, sees_two, sees_three, sees_value, seen, size_within, refused_value}
 
@@ -85,12 +84,9 @@ module _ (s : List ℕ) (place : ℕ) (row : ℕ → ℕ) where
   unfolding taken read_number
   ways = by_number (seen max_groups (drop place s))
 
--- ---- of an equal file, and from its first byte
+-- ---- of an equal file
 pub in_file : (place : ℕ) (row : ℕ → ℕ) {s s' : List ℕ} {t : Taken} → s' ≡ s → t ≡ taken s' place row → t ≡ taken s place row
 in_file place row {t = t} e h = subst (λ (s : List ℕ). t ≡ taken s place row) e h
-
-pub at_first : (s : List ℕ) (row : ℕ → ℕ) {place : ℕ} {t : Taken} → place ≡ 0 → t ≡ taken s place row → t ≡ taken s 0 row
-at_first s row {t = t} e h = subst (λ (place : ℕ). t ≡ taken s place row) e h
 
 pub link_in_file : (third : ℕ → ℕ) (place n : ℕ) {s s' : List ℕ} {l : Link} → s' ≡ s → l ≡ link_at third s' place n
     → l ≡ link_at third s place n
@@ -101,11 +97,6 @@ pub links_in_file : (third : ℕ → ℕ) (m : ℕ) (r : Progress) {s s' : List 
 links_in_file third m r {p = p} e h = subst (λ (s : List ℕ). p ≡ read_links third s m r) e h
 
 -- ---- a number, and on; the code has a number of its own for each refusal
--- what a `?` gives back, in the numbers of the table
-pub exit_of : {T E A : Type 0} (told : Result T E → A) (r : Result T E) (e : E) (x : A)
-    → IsErrAnd r (λ f. f ≡ e) → told (Err e) ≡ x → told r ≡ x
-exit_of told r e x h q = let p = err_from_is_err_and r h in rw (p.1, p.2) q
-
 -- where a `map_err` puts the place to a refusal
 pub unmapped : {T E : Type 0} (r : Result T E) (x : T) → MatchResult r (λ y. ◌≡◌ {A = Result T Fault} (Ok x) (Ok y)) (λ e. ⊥) → r ≡ Ok x
 unmapped (Ok y) x h = cc
@@ -245,3 +236,20 @@ module _ (third : ℕ → ℕ) (s : List ℕ) where
 
         pub all_done : length s ≤ u → going u net ≡ read_all third s
         all_done l = let h = on_m (going u net) net_is in rw (le-ltb u (length s) l) at h
+
+-- ---- the reply, by the whole file
+module _ (third : ℕ → ℕ) (s : List ℕ) where
+  reply : Progress → Reading
+  reply r = record { number = r.number; place = accepted r.number 0 (λ e. r.place); network = r.network }
+
+  pub file_refused : (r : Refusal) (u : ℕ) → stopped (refusal_number r) u ≡ read_all third s
+      → record { number = refusal_number r; place = u; network = no_network } ≡ read_by third s
+  unfolding reply
+  file_refused r u h =
+      let refused : ℕ → Reading = λ place. record { number = refusal_number r; place = place; network = no_network } in
+      ap refused (sym (refused_by (refusal_number r) 0 (λ e. u) (refusal_some r))) ∙ ap reply h
+
+  pub file_read : (net : Network) (u : ℕ) → going u net ≡ read_all third s
+      → record { number = 0; place = 0; network = net } ≡ read_by third s
+  unfolding reply
+  file_read net u h = ap reply h

@@ -20,9 +20,6 @@ use Rattle.network_file.proofs.laws.LengthLaws.{file_most}
 use Rattle.base.proofs.laws.ListLaws.{three_long}
 use Rattle.base.proofs.laws.PutsLaws.{puts_length, puts_none, puts_then}
 
--- ---- what lengths are within
-pub ruleset limits = (nodes_le, links_le)
-
 -- ---- the links
 abbrev pub link_of : Network → ℕ → List ℕ
 link_of net k = bytes_of_link (at net.a k) (at net.b k) (at net.capacity k)

@@ -15,7 +15,6 @@ use Rattle.plan.specs.Calls.{Written}
 use Rattle.plan.specs.Results.{as_written}
 use Rattle.network.proofs.laws.RefusalLaws.{refusal_some}
 use Rattle.plan.proofs.laws.SoundFacts.{sound_network}
-use Rattle.network.proofs.laws.NetworkLaws.{nodes_le}
 
 -- ---- opening
 module _ (file : List ℕ) (r : Reading) (e : r ≡ read_file file) where
@@ -37,7 +36,8 @@ module _ (file : List ℕ) (r : Reading) (e : r ≡ read_file file) where
 abbrev reply : FileWritten → Written
 reply w = record { number = w.number; length = w.length }
 
-by_reply : (e : ℕ) (x : FileWritten) (f : ℕ → FileWritten) → reply (accepted e x f) ≡ accepted e (reply x) (λ n. reply (f n))
+by_reply : (e : ℕ) (x : FileWritten) (f : ℕ → FileWritten)
+    → reply (accepted e x f) ≡ accepted e (reply x) (λ n. reply (f n))
 by_reply zero x f = refl
 by_reply (suc e) x f = refl
 
@@ -59,10 +59,8 @@ module _ (p : Plan) where
     unfolding write_of write_number file_write_of
     write_reply size w q =
         rw (q, e)
-        (sym (by_reply (file_write_number p.network size) (record { number = 0; length = length (file_of p.network) }) (λ x. record {
-          number = x;
-          length = 0;
-        })))
+        (sym (by_reply (file_write_number p.network size) (record { number = 0; length = length (file_of p.network) })
+        (λ x. record { number = x; length = 0 })))
 
     pub left_written : (buffer : List ℕ) → written_to p buffer ≡ file_written_to p.network buffer
     unfolding written_to write_number file_written_to
@@ -74,8 +72,6 @@ as_reply (Ok size) = refl
 as_reply (Err e) = refl
 
 -- ---- what the code of each call needs
-pub ruleset limits = (nodes_le)
-
 pub ruleset opening = (refusal_some, open_refused, open_accepted)
 
 pub ruleset writing = (write_unsound, left_unsound, write_reply, left_written, as_reply, sound_network)

@@ -1,11 +1,13 @@
 -- Laws of the tests of soundness: the word of all nodes as a bound of sides, the lightest edge's test beside the tree's, the steps from
 -- node 1 on.
 use Rattle.std.proofs.Common.{◌≡◌, refl, Bool, true, false, ◌&&◌, List, [], ◌∷◌, ℕ, zero, suc, ◌+◌, ◌^◌, ◌≤◌, ◌<◌, ltb, sym, ap, ◌∙◌, leb}
-use Rattle.std.proofs.Common.{take, length, arith, add-one, lt-ltb, le-ltb, ltb-true, le-leb, pow_pos}
+use Rattle.std.proofs.Common.{take, length, get_or, arith, add-one, lt-ltb, le-ltb, ltb-true, le-leb, pow_pos}
 use Rattle.std.proofs.Math.Bool.{and_comm}
 use Rattle.std.proofs.Math.Decide.{dec_le}
 use Rattle.std.proofs.lemmas.Bool.{lt-leb}
-use Rattle.std.specs.List.{list_all, range_with_len}
+use Rattle.std.proofs.lemmas.List.{get_or-take, length-take-le, take_all}
+use Rattle.std.proofs.lemmas.Slice.Zip.{get_or-zip, length-zip}
+use Rattle.std.specs.List.{list_all, range_with_len, zip}
 use Rattle.std.proofs.lemmas.List.Folds.{list_all_more}
 use Rattle.base.specs.Basics.{at, all, every}
 use Rattle.base.proofs.laws.RangeLaws.{all_in_range}
@@ -46,13 +48,34 @@ parents_inside n parent small e i l = record {
   stays = λ j q. ltb-true (at parent j) n (all_at n (λ i. ltb (at parent i) n) e j q);
 }
 
--- the test of each of the first n numbers
+-- the test of each of the first n of a list, where f is that of the places
+module _ {A : Type 0} (p : A → Bool) (d : A) (f : ℕ → Bool) where
+  all_places : (xs : List A) (n : ℕ) → n ≤ length xs → ((i : ℕ) → i < n → p (get_or xs i d) ≡ f i)
+      → list_all p (take n xs) ≡ all n f
+  unfolding all
+  all_places xs zero l h = refl
+  all_places xs (suc n) l h =
+      let before = list_all p (take n xs) in
+      let more : list_all p (take (n + 1) xs) ≡ (before && p (get_or xs n d)) = list_all_more p xs n d (omega arith) in
+      let same = all_places xs n (omega arith) (λ i k. h i (omega arith)) in
+      (rw add-one at more) ∙ rw (h n (omega arith)) (ap (λ b. b && f n) same)
+
+-- of the first n numbers
 pub all_take : (p : ℕ → Bool) (xs : List ℕ) (n : ℕ) → n ≤ length xs → list_all p (take n xs) ≡ all n (λ i. p (at xs i))
-unfolding all
-all_take p xs zero l = refl
-all_take p xs (suc n) l =
-    let more : list_all p (take (n + 1) xs) ≡ (list_all p (take n xs) && p (at xs n)) = list_all_more p xs n 0 (omega arith) in
-    (rw add-one at more) ∙ ap (λ b. b && p (at xs n)) (all_take p xs n (omega arith))
+all_take p xs n l = all_places p 0 _ xs n l (λ i k. refl)
+
+-- of the first n numbers of two lists, in pairs
+pub all_zipped : (p : ℕ × ℕ → Bool) (xs ys : List ℕ) (n : ℕ) → n ≤ length xs → n ≤ length ys
+    → list_all p (zip (take n xs) (take n ys)) ≡ all n (λ i. p (at xs i, at ys i))
+all_zipped p xs ys n l m =
+    let k = length-take-le n xs l in
+    let j = length-take-le n ys m in
+    let zs = zip (take n xs) (take n ys) in
+    let e = length-zip (take n xs) (take n ys) in
+    ap (list_all p) (sym (take_all n zs (omega (arith, e, k, j))))
+    ∙ all_places p (0, 0) _ zs n (omega (arith, e, k, j)) (λ i h.
+    ap p (get_or-zip (take n xs) (take n ys) i (0, 0) (omega (arith, k)) (omega (arith, j)))
+    ∙ rw (get_or-take n xs i 0 h, get_or-take n ys i 0 h) refl)
 
 -- the lightest edge's test is answered with the fourth of the tree's
 moved : (a b c d e f g x : Bool) → every (a ∷ b ∷ c ∷ (d && x) ∷ e ∷ f ∷ g ∷ []) ≡ (every (a ∷ b ∷ c ∷ d ∷ e ∷ f ∷ g ∷ []) && x)

@@ -2,9 +2,7 @@
 use Rattle.std.specs.Prelude.{◌≡◌, refl, true, false, List, [], ◌∷◌, ◌++◌, ℕ, zero, suc, ◌+◌, ◌-◌, ◌/◌, ◌%◌, ◌^◌}
 use Rattle.std.specs.Prelude.{◌≤◌, ◌<◌, length, replicate, set, take, drop}
 use Rattle.std.proofs.Common.{sym, ap, ap₂, ◌∙◌, rules, arith, length-append}
-use Rattle.std.proofs.lemmas.List.{take-append-drop, take-append-le, take-replicate}
-use Rattle.std.proofs.lemmas.Grind.{common_steps}
-use Rattle.std.proofs.lemmas.List.Edits.{sets, sets-eq}
+use Rattle.std.proofs.lemmas.List.{length-take-le, take-append-drop, take-append-le, take-replicate}
 use Rattle.std.proofs.lemmas.Fmt.{AppendsLastDigit, decimal_from_appends, length-decimal-le}
 use Rattle.std.specs.Fmt as fmt
 use Rattle.text.specs.Text.{digits, decimal}
@@ -19,9 +17,8 @@ appends = search rules
 pub decimal_is : (n : ℕ) → n < 2 ^ 64 → decimal n ≡ fmt.decimal n
 decimal_is n l = decimal_from_appends digits appends 20 n l (length-decimal-le 20 n (omega arith) (omega arith) l)
 
--- a part of a buffer written over
-pub sets_part : (l xs : List ℕ) (i k : ℕ) → k ≡ length xs → i + k ≤ length l → take i l ++ (xs ++ drop k (drop i l)) ≡ sets l i xs
-sets_part l xs i k e h = let s = sets-eq xs l i (omega arith) in grind (arith, common_steps, s)
+-- what is put at the front of a buffer, and how long that front is
+pub ruleset putting = (decimal_is, length-take-le)
 
 -- ---- digits that end at the point, in a text that was blank before it
 abbrev behind : ℕ → List ℕ

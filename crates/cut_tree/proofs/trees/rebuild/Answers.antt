@@ -7,7 +7,7 @@ use Rattle.cut_tree.proofs.trees.rebuild.Goals as goal
 pub invariant_of-change : goal.invariant_of-change
 invariant_of-change c =
     let places = link_places c.args.net.network c.args.net.fits c.args.k c.requires.link in
-    record { ends = (places.1, places.2) }
+    record { ends = rw (c.link.ensures.a, c.link.ensures.b) (places.1, places.2) }
 
 pub invariant_of-worked_out : goal.invariant_of-worked_out
 invariant_of-worked_out c = record {

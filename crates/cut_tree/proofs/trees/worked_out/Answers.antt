@@ -6,7 +6,7 @@ use Rattle.cut_tree.proofs.trees.worked_out.Goals as goal
 use Rattle.cut_tree.proofs.trees.worked_out.Goals.{in-Some, in-None}
 
 pub loop-s-init : goal.loop-s-init
-loop-s-init g c = going_start _ _
+loop-s-init g c = rw (c.before.new-tree.ensures, c.new-steps.ensures) (going_start _ _)
 
 pub loop-s-preserved : goal.loop-s-preserved
 loop-s-preserved g c =

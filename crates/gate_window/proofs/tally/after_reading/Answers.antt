@@ -1,19 +1,18 @@
 -- `gate_window::tally::after_reading` meets its contract: one law for each way through it.
 use Rattle.std.proofs.Common.{ap, ◌∙◌, to_z-of_z, w32, rules}
-use Rattle.std.proofs.lemmas.Result.{err_from_is_err_and}
+use Rattle.base.proofs.laws.ResultLaws.{exit_of}
 use Rattle.gate_window.specs.Reading.{read}
+use Rattle.gate_window.specs.Results.{as_updated}
 use Rattle.gate_window.proofs.laws.ReadingLaws.{refused_is, full_is, read_is}
 use Rattle.gate_window.proofs.tally.after_reading.Goals as goal
 
 pub returns-in_err-left : goal.returns-in_err-left
 returns-in_err-left c =
-    let a = c.args in
-    let e = err_from_is_err_and c.from_residual.result c.from_residual.ensures.1 in
-    rw (e.1, e.2) (refused_is a.p a.s a.t a.demand a.w c.in_err-left.field-0.0 c.in_err-left.ensures)
+    exit_of (as_updated _) _ _ _ c.from_residual.ensures.1 (refused_is _ _ _ _ _ _ c.in_err-left.ensures)
 
 pub returns-then-w-ge-MAX_READINGS : goal.returns-then-w-ge-MAX_READINGS
 returns-then-w-ge-MAX_READINGS c =
-    let a = c.args in full_is a.p a.s a.t a.demand a.w c.in_ok-left.left c.in_ok-left.ensures c.if-w-ge-MAX_READINGS.true
+    full_is _ _ _ _ _ _ c.in_ok-left.ensures c.if-w-ge-MAX_READINGS.true
 
 pub returns : goal.returns
 returns c =

@@ -1,9 +1,12 @@
--- `full_residual` gives each link its capacity each way.
-use Rattle.std.proofs.Common.{[]}
-use Rattle.max_flow.proofs.laws.ResidualLaws.{full_rows}
+-- `full_residual` gives each link that has come its capacity each way.
+use Rattle.std.proofs.Common.{add-one}
+use Rattle.network.proofs.laws.EachLink.{turns}
+use Rattle.max_flow.specs.code.Residuals.{full_up_to}
 use Rattle.max_flow.proofs.residual.full_residual.Goals as goal
 
-pub returns : goal.returns
-returns c =
-    let m = c.map.ensures.items in
-    full_rows c.args.net.network c.args.net.fits _ m.long (λ k l. (m.at k 0 [] l).2.met)
+pub loop-k-preserved : goal.loop-k-preserved
+unfolding full_up_to
+loop-k-preserved c =
+    let o = c.loop-k.invariant in
+    let turn = turns o.numbered c.in-Some.ensures.steps in
+    record { numbered = turn.next; full = rw (turn.come, add-one, turn.place, turn.is.same, o.full) }

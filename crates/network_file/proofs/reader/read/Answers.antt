@@ -1,8 +1,8 @@
 -- `read` meets its contract: the third number of a link is its capacity, and what is accepted is within the limits.
+use Rattle.base.proofs.laws.ResultLaws.{exit_of}
 use Rattle.network_file.specs.Reading.{read_file}
 use Rattle.network_file.specs.Results.{as_reading}
 use Rattle.network_file.proofs.laws.FileLaws.{accepted_fits}
-use Rattle.network_file.proofs.laws.ReadingSteps.{exit_of}
 use Rattle.network_file.proofs.reader.read.Goals as goal
 
 pub returns-in_err-network : goal.returns-in_err-network

@@ -5,4 +5,5 @@ use Rattle.cut_tree.proofs.keep.Change.kept.Goals as goal
 
 pub overflow_sub-result : goal.overflow_sub-result
 overflow_sub-result c =
-    omega (arith, survived_fits c.args.self c.args.o.side c.args.o.value (sym c.survives.ensures ∙ c.if-not-survives.false))
+    let cut = c.args.step.cut in
+    omega (arith, survived_fits c.args.self cut.side cut.value (sym c.survives.ensures ∙ c.if-not-survives.false))

@@ -16,9 +16,10 @@ pub lightest_up-requires : goal.lightest_up-requires
 lightest_up-requires c =
     let a = c.args in
     let (from, to, apart) = c.requires in
-    let below =
-    up_below a.self.now.nodes a.self.now.tree.now.parent a.self.now.climbs c.ancestors-above_t.result a.self.now.tree.now.weight max_climb a.s
-    None from (λ v e. absurd (cc)) in
+    let rooted = a.self.now in
+    let tree = rooted.tree.now in
+    let stop = c.ancestors-above_t.result in
+    let below = up_below rooted.nodes tree.parent rooted.climbs stop tree.weight max_climb a.s None from (λ v e. absurd (cc)) in
     (to, rw c.lightest_up-best.ensures below)
 
 pub unwrap-requires : goal.unwrap-requires

@@ -5,16 +5,13 @@ use Rattle.base.specs.Basics.{at}
 use Rattle.network.specs.Limits.{max_nodes}
 use Rattle.max_flow.proofs.code.LinkFlows.{moderate}
 use Rattle.max_flow.specs.code.Augment.{Growth}
-use Rattle.max_flow.proofs.code.Augment.{grows, sending, at_end_lem, ends_lt, last_lt}
+use Rattle.max_flow.proofs.code.Augment.{grows, sending, at_end_lem, last_lt}
 use Rattle.max_flow.proofs.laws.GrowthLaws.{flow_start}
 use Rattle.max_flow.proofs.ends.Ends.augment.Goals as goal
 use Rattle.max_flow.proofs.ends.Ends.augment.Goals.{After-push-flow, Else-not-contains}
 
 pub loop-flow-init : goal.loop-flow-init
 loop-flow-init c = (refl, flow_start c.args.self.two _ c.args.self.prepared.now.unsent)
-
-pub contains-requires : goal.contains-requires
-contains-requires c = (ends_lt c.args.self.two).1
 
 pub write_flow-requires : goal.write_flow-requires
 write_flow-requires c =
@@ -39,14 +36,14 @@ bounds-tree-last c = (last (goal.at.bounds-tree-last c).Else-not-contains).1
 
 -- the flow after the path
 grown : (c : After-push-flow)
-    → Growth c.args.self.prepared.now.network c.args.self.s c.args.self.t c.send_all-total.result
+    → Growth c.args.self.prepared.now.net.network c.args.self.s c.args.self.t c.send_all-total.result
     (at c.search-tree.result.bottleneck (c.search-tree.result.count - 1))
     c.push-flow.result
 grown c =
     let f = c.send_all-total.ensures.flowing in
     let o = c.search-tree.ensures in
     grows c.args.self.two f o (sym c.contains.ensures ∙ c.if-not-contains.false)
-    (c.push-flow.ensures c.args.self.prepared.now.network c.args.self.s (sending c.args.self.two f o (omega arith)))
+    (c.push-flow.ensures c.args.self.prepared.now.net.network c.args.self.s (sending c.args.self.two f o (omega arith)))
 
 pub overflow_add-total : goal.overflow_add-total
 overflow_add-total c = omega (arith, (grown (goal.at.overflow_add-total c).After-push-flow).most)

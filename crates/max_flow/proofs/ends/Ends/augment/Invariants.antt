@@ -7,7 +7,7 @@ use Rattle.max_flow.proofs.ends.Ends.augment.Given as goal
 
 abbrev pub invariant-loop-flow : goal.invariant-loop-flow
 invariant-loop-flow l =
-    (l.out ≡ l.initial.out) × Flowing l.self.prepared.now.network l.self.s l.self.t l.total l.flow.residual
+    (l.out ≡ l.initial.out) × Flowing l.self.prepared.now.net.network l.self.s l.self.t l.total l.flow.residual
 
 abbrev pub decreases-loop-flow : goal.decreases-loop-flow
 decreases-loop-flow l = max_value - l.total

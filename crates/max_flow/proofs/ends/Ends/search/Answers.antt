@@ -9,7 +9,6 @@ use Rattle.max_flow.specs.code.Search.{grown_by}
 use Rattle.max_flow.specs.code.Scan.{Inner, Placed, Looking, Fresh}
 use Rattle.max_flow.proofs.code.Scan.{ready, outer_start, outer_next, placed}
 use Rattle.max_flow.proofs.code.Scan.{inner_start, looking, next_full, next_held, next_new, hit_new}
-use Rattle.max_flow.proofs.code.Augment.{ends_lt}
 use Rattle.max_flow.specs.declared.search.SearchTree.{SearchTree}
 use Rattle.max_flow.proofs.ends.Ends.search.Goals as goal
 use Rattle.max_flow.proofs.ends.Ends.search.Goals.{After-min, In-Some, In-search, Then-not-contains}
@@ -20,7 +19,7 @@ at_place : (c : In-search) → Placed c.search.tree c.search.i
 at_place c = placed (ready c.args.self) c.search.invariant c.search-test.true
 
 before : (c : In-Some)
-    → Inner c.args.self.prepared.now.network c.args.residual c.args.self.s c.args.self.t c.loop-j.tree c.search.i
+    → Inner c.args.self.prepared.now.net.network c.args.residual c.args.self.s c.args.self.t c.loop-j.tree c.search.i
     (at c.search.tree.node c.search.i) (suc c.in-Some.j)
 before c = rw (entry_some c.in-Some.ensures) at c.loop-j.invariant
 
@@ -50,9 +49,6 @@ fresh c =
       new = sym c.contains.ensures ∙ c.if-not-contains.true;
       tree = ap (grownTo c) c.add.ensures;
     }
-
-pub seed-tree-requires : goal.seed-tree-requires
-seed-tree-requires c = (ends_lt c.args.self.two).0
 
 pub search-init : goal.search-init
 search-init c = outer_start (ready c.args.self) c.args.residual _ c.seed-tree.ensures

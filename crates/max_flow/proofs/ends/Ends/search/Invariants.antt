@@ -7,13 +7,14 @@ use Rattle.max_flow.specs.code.Scan.{Outer, Inner}
 use Rattle.max_flow.proofs.ends.Ends.search.Given as goal
 
 abbrev pub invariant-loop-j : goal.invariant-loop-j
-invariant-loop-j l = Inner l.self.prepared.now.network l.residual l.self.s l.self.t l.tree l.i l.u (entry (arc_of l.link))
+invariant-loop-j l =
+    Inner l.self.prepared.now.net.network l.residual l.self.s l.self.t l.tree l.i l.u (entry (arc_of l.link))
 
 abbrev pub decreases-loop-j : goal.decreases-loop-j
 decreases-loop-j l = entry (arc_of l.link)
 
 abbrev pub invariant-search : goal.invariant-search
-invariant-search l = Outer l.self.prepared.now.network l.residual l.self.s l.self.t l.tree l.i
+invariant-search l = Outer l.self.prepared.now.net.network l.residual l.self.s l.self.t l.tree l.i
 
 abbrev pub decreases-search : goal.decreases-search
 decreases-search l = max_nodes - l.i

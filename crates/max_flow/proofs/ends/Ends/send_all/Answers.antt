@@ -1,23 +1,14 @@
 -- `send_all` raises the total by what each phase sends: it stays that of the flow. There are no more phases than nodes.
 use Rattle.std.proofs.Common.{◌+◌, arith}
-use Rattle.max_flow.proofs.code.Augment.{ends_lt, flow_le}
+use Rattle.max_flow.proofs.code.Augment.{flow_le}
 use Rattle.max_flow.specs.code.Residuals.{Flowing}
 use Rattle.max_flow.proofs.laws.GrowthLaws.{flow_raised}
 use Rattle.max_flow.proofs.ends.Ends.send_all.Goals as goal
 use Rattle.max_flow.proofs.ends.Ends.send_all.Goals.{After-send-d}
 
-pub sweep-requires : goal.sweep-requires
-sweep-requires c = ends_lt c.args.self.two
-
-pub single-requires : goal.single-requires
-single-requires c = (ends_lt c.args.self.two).0
-
-pub invariant_of-load-clause-node_within : goal.invariant_of-load-clause-node_within
-invariant_of-load-clause-node_within c = (ends_lt c.args.self.two).0
-
 -- the flow after one phase more, and its total
 phase : (c : After-send-d)
-    → Flowing c.args.self.prepared.now.network c.args.self.s c.args.self.t (c.loop.raised + c.send-d.result)
+    → Flowing c.args.self.prepared.now.net.network c.args.self.s c.args.self.t (c.loop.raised + c.send-d.result)
     c.send-d.new.flow.residual
 phase c = flow_raised c.args.self.two.apart c.loop.invariant.1 c.send-d.ensures.sent
 

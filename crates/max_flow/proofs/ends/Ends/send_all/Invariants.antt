@@ -6,4 +6,4 @@ use Rattle.max_flow.proofs.ends.Ends.send_all.Given as goal
 abbrev pub invariant-loop : goal.invariant-loop
 invariant-loop l =
     (l.total ≤ l.raised)
-    × Flowing l.fn.self.prepared.now.network l.fn.self.s l.fn.self.t l.raised l.flow.residual
+    × Flowing l.fn.self.prepared.now.net.network l.fn.self.s l.fn.self.t l.raised l.flow.residual

@@ -15,7 +15,7 @@ send-loop-preserved t c = send_more c.requires c.loop.invariant c.send_by-d.ensu
 
 -- the step leads on, by an arc with room
 onward : {t : ℕ} (c : send_by-After-room-spare t)
-    → Way c.args.self.prepared.now.network c.args.flow.now.residual c.args.load.on c.args.load.node c.args.step.node
+    → Way c.args.self.prepared.now.net.network c.args.flow.now.residual c.args.load.on c.args.load.node c.args.step.node
     c.args.step.arc c.room-spare.result
 onward c =
     way c.args.self c.args.load c.args.step c.requires.balanced (c.leads_on.ensures c.if-not-leads_on.false)
@@ -23,13 +23,13 @@ onward c =
 
 pub send_by-along-requires : goal.send_by-along-requires
 send_by-along-requires t c =
-    may_send (send_along c.args.load.limit c.args.self.prepared.now.fits c.requires.balanced
+    may_send (send_along c.args.load.limit c.args.self.prepared.now.net.fits c.requires.balanced
     (onward (goal.at.send_by-along-requires t c).After-room-spare) c.min-want.ensures c.add.ensures
     c.send_from-d.ensures)
 
 pub send_by-returns : goal.send_by-returns
 send_by-returns t c =
     rw c.along.ensures
-    (send_way c.args.load.limit c.args.self.prepared.now.fits c.requires.balanced
+    (send_way c.args.load.limit c.args.self.prepared.now.net.fits c.requires.balanced
     (onward (goal.at.send_by-returns t c).After-room-spare) c.min-want.ensures c.add.ensures
     c.send_from-d.ensures)

@@ -1,7 +1,8 @@
 -- `link` meets its contract: three numbers are taken, one behind the other.
 use Rattle.std.proofs.Common.{◌∙◌, arith}
+use Rattle.base.proofs.laws.ResultLaws.{exit_of}
 use Rattle.network_file.specs.code.Parts.{as_link}
-use Rattle.network_file.proofs.laws.ReadingSteps.{exit_of, in_file, a_stops, b_stops, c_stops}
+use Rattle.network_file.proofs.laws.ReadingSteps.{in_file, a_stops, b_stops, c_stops}
 use Rattle.network_file.proofs.laws.ReadingSteps.{end_below, other_end_below, link_taken}
 use Rattle.network_file.proofs.reader.Reader.link.Goals as goal
 

@@ -1,12 +1,13 @@
 -- `links` meets its contract.
 use Rattle.std.proofs.Common.{refl, sym, ap, ◌∙◌}
+use Rattle.base.proofs.laws.ResultLaws.{exit_of}
 use Rattle.network_file.specs.code.Parts.{as_link, as_progress}
-use Rattle.network_file.proofs.laws.ReadingSteps.{exit_of, link_in_file}
+use Rattle.network_file.proofs.laws.ReadingSteps.{link_in_file}
 use Rattle.network_file.proofs.laws.LinksSteps.{none_read, one_more, one_refused}
 use Rattle.network_file.proofs.reader.Reader.links.Goals as goal
 
 pub loop-k-init : goal.loop-k-init
-loop-k-init c = record { same = refl; read = none_read _ _ _ _ _ }
+loop-k-init c = record { same = refl; read = rw c.new-network.ensures (none_read _ _ _ _ _) }
 
 pub returns-in_err-link : goal.returns-in_err-link
 returns-in_err-link c =

@@ -3,6 +3,7 @@
 use Rattle.std.proofs.Common.{ℕ, ◌+◌, ◌-◌, ◌≡◌, ◌≤◌, List, Result, Ok, MatchResult, length, take, drop}
 use Rattle.std.proofs.Common.{refl, sym, ap, ◌∙◌, arith, rules}
 use Rattle.base.proofs.laws.ListLaws.{rest_is}
+use Rattle.base.proofs.laws.ResultLaws.{exit_of}
 use Rattle.network.specs.Refusals.{outcome_number}
 use Rattle.network.specs.declared.refusals.Refusal.{Refusal}
 use Rattle.network_file.specs.Number.{read_number}
@@ -13,7 +14,7 @@ use Rattle.network_file.specs.declared.Fault.{Fault}
 use Rattle.network_file.specs.declared.FileNumber.{FileNumber}
 use Rattle.network.proofs.laws.RefusalLaws.{refusal_some}
 use Rattle.network_file.proofs.laws.ReadingSteps.{takes_none, takes_wrong, takes_value, value_within}
-use Rattle.network_file.proofs.laws.ReadingSteps.{exit_of, mapped, unmapped}
+use Rattle.network_file.proofs.laws.ReadingSteps.{mapped, unmapped}
 use Rattle.network_file.proofs.reader.Reader.take.Goals as goal
 
 -- what was read, of the list that stands behind the slice

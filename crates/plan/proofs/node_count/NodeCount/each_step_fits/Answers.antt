@@ -8,10 +8,12 @@ pub returns-then-root_step_within : goal.returns-then-root_step_within
 returns-then-root_step_within c =
     let n = c.args.self.count in
     let some = c.args.self.some in
+    let root = rw c.step.ensures at (sym c.root_step_within.ensures ∙ c.if-root_step_within.true) in
     all_from_range (step_test n c.args.steps) 1 n c.all.ensures.ran (λ x b q k. search rules)
-    ∙ steps_from_one n c.args.steps (n - 1) (omega (arith, some)) (sym c.root_step_within.ensures ∙ c.if-root_step_within.true)
+    ∙ steps_from_one n c.args.steps (n - 1) (omega (arith, some)) root
 
 pub returns-else-root_step_within : goal.returns-else-root_step_within
 returns-else-root_step_within c =
     let e = c.if-root_step_within.false in
-    e ∙ sym (root_step_fails c.args.self.count c.args.steps (sym c.root_step_within.ensures ∙ e) c.args.self.some)
+    let root = rw c.step.ensures at (sym c.root_step_within.ensures ∙ e) in
+    e ∙ sym (root_step_fails c.args.self.count c.args.steps root c.args.self.some)
