@@ -1,7 +1,7 @@
 // Hints for the flow core: where flow is to be sent first. A wrong one costs time and nothing else, so what a hint
 // leads to is promised nowhere: whoever follows one tests it. The contracts say what each function writes into the
-// hints or the table, or reads from them; of `sweep` and `step` only that what they name is in bounds, and that the arc
-// of a step has room.
+// hints or the table, or reads from them; of `sweep` and of a step only that what they name is in bounds, and that the
+// step's arc has room.
 #![tactic(auto)]
 
 mod hints; // where flow may be sent

@@ -1,11 +1,11 @@
 -- "The network and its file" and rows 1 to 9 of "Checks by place": a file read into a network.
-use Rattle.std.specs.Prelude.{ℕ, zero, suc, ◌+◌, not, ◌||◌, List, [], ◌∷◌, length, drop, set, replicate, ltb, eqb}
+use Rattle.std.specs.Prelude.{ℕ, zero, suc, ◌+◌, not, ◌||◌, List, [], ◌∷◌, length, drop, set, ltb, eqb}
 use Rattle.base.specs.Basics.{pick}
 use Rattle.base.specs.Checks.{row, chain, accepted, check}
 use Rattle.network.specs.Refusals.{bad_node_count, too_many_links, end_not_a_node, equal_ends, link_too_large}
 use Rattle.network.specs.Refusals.{bytes_follow}
 use Rattle.network.specs.Limits.{max_nodes, max_links, max_capacity}
-use Rattle.network.specs.Network.{no_network}
+use Rattle.network.specs.Network.{no_network, blank_network}
 use Rattle.network.specs.declared.Network.{Network}
 use Rattle.network_file.specs.Number.{read_number, refusal_in, value_in, size_in}
 
@@ -95,13 +95,7 @@ going place net = record { number = 0; place = place; network = net }
 
 -- a network of n nodes whose m links are not read yet
 abbrev pub unread : ℕ → ℕ → Network
-unread n m = record {
-  nodes = n;
-  links = m;
-  a = replicate max_links 0;
-  b = replicate max_links 0;
-  capacity = replicate max_links 0;
-}
+unread n m = blank_network n m
 
 abbrev pub with_link : Network → ℕ → ℕ → ℕ → ℕ → Network
 with_link net k a b c =
