@@ -22,7 +22,7 @@ read_groups zero s = Refused number_too_long
 read_groups (suc left) [] = Refused ends_early
 read_groups (suc left) (x ∷ xs) = let rest = read_groups left xs in pick (ltb x 128) (Value x 1) (continued x rest)
 
-unfoldable pub read_number : List ℕ → Number
+abbrev pub read_number : List ℕ → Number
 read_number s = read_groups max_groups s
 
 -- the paper's number and values for each case: the refusal number, 0 for none; the value; how many bytes it has
@@ -43,7 +43,7 @@ unfoldable pub group_bytes : ℕ → ℕ → List ℕ
 group_bytes zero v = []
 group_bytes (suc left) v = let rest = group_bytes left (v / 128) in pick (ltb v 128) (v ∷ []) ((128 + v % 128) ∷ rest)
 
-unfoldable pub number_bytes : ℕ → List ℕ
+abbrev pub number_bytes : ℕ → List ℕ
 number_bytes v = group_bytes max_groups v
 
 -- how many bytes v has: one for each group, in at most this many

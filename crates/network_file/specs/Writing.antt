@@ -4,25 +4,31 @@ use Rattle.std.proofs.lemmas.List.Edits.{sets}
 use Rattle.base.specs.Basics.{at}
 use Rattle.base.specs.Checks.{row, chain, accepted}
 use Rattle.network.specs.Refusals.{buffer_too_short}
-use Rattle.network.specs.Limits.{max_nodes, max_links, max_capacity}
+use Rattle.network.specs.Limits.{max_nodes, max_links, max_capacity, max_groups}
 use Rattle.network.specs.declared.Network.{Network}
-use Rattle.network_file.specs.Number.{number_bytes, bytes_of}
+use Rattle.network_file.specs.Number.{group_bytes, bytes_of}
 
 -- what writing a file gives: its length; or a refusal number and 0
 pub record FileWritten : Type 0 where
   pub number : ℕ
   pub length : ℕ
 
-abbrev pub bytes_of_link : ℕ → ℕ → ℕ → List ℕ
-bytes_of_link a b c = number_bytes a ++ (number_bytes b ++ number_bytes c)
+-- a link, its numbers in at most this many groups
+abbrev pub bytes_of_link : ℕ → ℕ → ℕ → ℕ → List ℕ
+bytes_of_link groups a b c = group_bytes groups a ++ (group_bytes groups b ++ group_bytes groups c)
 
 -- links 0 to k - 1
-unfoldable pub link_bytes : Network → ℕ → List ℕ
-link_bytes net zero = []
-link_bytes net (suc k) = link_bytes net k ++ bytes_of_link (at net.a k) (at net.b k) (at net.capacity k)
+unfoldable pub link_bytes : ℕ → Network → ℕ → List ℕ
+link_bytes groups net zero = []
+link_bytes groups net (suc k) =
+    link_bytes groups net k ++ bytes_of_link groups (at net.a k) (at net.b k) (at net.capacity k)
+
+abbrev pub file_in : ℕ → Network → List ℕ
+file_in groups net =
+    group_bytes groups net.nodes ++ (group_bytes groups net.links ++ link_bytes groups net net.links)
 
 unfoldable pub file_of : Network → List ℕ
-file_of net = number_bytes net.nodes ++ (number_bytes net.links ++ link_bytes net net.links)
+file_of net = file_in max_groups net
 
 -- the longest link: two ends and a capacity, none of which has more bytes than the highest
 abbrev pub max_link : ℕ

@@ -50,7 +50,6 @@ fn continued_by(x: u8, behind: &[u8], left: usize) -> Result<FileNumber, Refusal
 }
 
 // The number at the front of what is left of a file.
-#[tactic(auto, unfolding(crate::specs::Number::read_number))]
 pub fn read_number(s: &[u8]) -> Result<FileNumber, Refusal>
     ensures { as_number result ≡ read_number s.now }
 {
@@ -73,7 +72,6 @@ fn groups_length(v: u32, left: usize) -> usize
 }
 
 // How many bytes v has.
-#[tactic(auto, unfolding(crate::specs::Number::number_bytes))]
 pub fn number_length(v: u32) -> usize
     ensures { result ≡ length (number_bytes v) }
 {

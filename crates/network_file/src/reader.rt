@@ -1,6 +1,6 @@
 // A file read into a network. A number passes 1 to 3, then its own row, before the next is read.
 ghost use Rattle.std.specs.Prelude.{length, ◌≡◌, ◌≤◌};
-ghost use Rattle.network.specs.Limits.{max_nodes, max_links};
+ghost use Rattle.network.specs.Limits.{max_nodes, max_links, max_groups};
 ghost use Rattle.network_file.specs.Reading.{taken, link_at, going, unread, read_links, read_by, read_file};
 ghost use Rattle.network_file.specs.Results.{as_reading};
 ghost use Rattle.network_file.specs.code.Parts.{as_taken, as_link, as_progress, as_read};
@@ -35,7 +35,8 @@ impl Reader<'_> {
     // The next number, by its row.
     fn take(&mut self, row: Row) -> Result<u32, Fault>
         ensures file { self.new.file.now ≡ self.old.file.now }
-        ensures value { as_taken self.new.place result ≡ taken self.old.file.now self.old.place (row_of row) }
+        ensures value { as_taken self.new.place result
+            ≡ taken max_groups self.old.file.now self.old.place (row_of row) }
     {
         let place = self.place;
         let at_place = |refusal| Fault { refusal, place };
@@ -49,7 +50,8 @@ impl Reader<'_> {
     fn link(&mut self, n: usize, third: Row) -> Result<Link, Fault>
         requires { n ≤ max_nodes }
         ensures file { self.new.file.now ≡ self.old.file.now }
-        ensures value { as_link self.new.place result ≡ link_at (row_of third) self.old.file.now self.old.place n }
+        ensures value { as_link self.new.place result
+            ≡ link_at max_groups (row_of third) self.old.file.now self.old.place n }
     {
         let a = self.take(Row::End { n })?;
         let b = self.take(Row::OtherEnd { n, a })?;
@@ -66,7 +68,7 @@ impl Reader<'_> {
         requires { (n ≤ max_nodes) × (m ≤ max_links) }
         ensures file { self.new.file.now ≡ self.old.file.now }
         ensures value { as_progress self.new.place result
-            ≡ read_links (row_of third) self.old.file.now m (going self.old.place (unread n m)) }
+            ≡ read_links max_groups (row_of third) self.old.file.now m (going self.old.place (unread n m)) }
     {
         let mut network = Network::new(n, m);
         // Kept: what is written through a `zip` of places and links is not known after the loop, so that no invariant
@@ -81,7 +83,7 @@ impl Reader<'_> {
 
 // What a file reads as, where the third number of a link passes the row given.
 fn read_by(file: &[u8], third: Row) -> Result<Network, Fault>
-    ensures { as_read result ≡ read_by (row_of third) file.now }
+    ensures { as_read result ≡ read_by max_groups (row_of third) file.now }
 {
     let mut reader = Reader { file, place: 0 };
     let n = reader.take(Row::Nodes)?;

@@ -1,5 +1,6 @@
 // A network written into a file: n, m, then a, b, c for each link in order.
 ghost use Rattle.std.specs.Prelude.{[], length, ◌≡◌, ◌∷◌, ◌≤◌, ◌<◌};
+ghost use Rattle.network.specs.Limits.{max_groups};
 ghost use Rattle.network_file.specs.Number.{group_bytes, number_bytes};
 ghost use Rattle.network_file.specs.Results.{as_written};
 ghost use Rattle.network_file.specs.Writing.{bytes_of_link, link_bytes, file_of, file_write_of, file_written_to};
@@ -11,14 +12,14 @@ use network::{Link, MAX_GROUPS, Refusal, ValidNetwork};
 // How many bytes a link has.
 #[tactic(auto, using(crate::proofs::laws::LengthLaws::number_most))]
 fn link_length(link: Link) -> usize
-    ensures { result ≡ length (bytes_of_link link.a link.b link.capacity) }
+    ensures { result ≡ length (bytes_of_link max_groups link.a link.b link.capacity) }
 {
     number_length(link.a as u32) + number_length(link.b as u32) + number_length(link.capacity)
 }
 
 // How many bytes all links have.
 fn links_length(net: ValidNetwork) -> usize
-    ensures { result ≡ length (link_bytes net.network net.network.links) }
+    ensures { result ≡ length (link_bytes max_groups net.network net.network.links) }
 {
     net.each_link().map(link_length).sum()
 }
@@ -71,7 +72,6 @@ impl Writer<'_> {
     }
 
     // Writes v.
-    #[tactic(auto, unfolding(crate::specs::Number::number_bytes))]
     fn put_number(&mut self, v: u32)
         requires { HasRoom self.old (number_bytes v) }
         ensures { Wrote self.old self.new (number_bytes v) }
@@ -81,8 +81,8 @@ impl Writer<'_> {
 
     // Writes a link.
     fn put_link(&mut self, link: Link)
-        requires { HasRoom self.old (bytes_of_link link.a link.b link.capacity) }
-        ensures { Wrote self.old self.new (bytes_of_link link.a link.b link.capacity) }
+        requires { HasRoom self.old (bytes_of_link max_groups link.a link.b link.capacity) }
+        ensures { Wrote self.old self.new (bytes_of_link max_groups link.a link.b link.capacity) }
     {
         self.put_number(link.a as u32);
         self.put_number(link.b as u32);
@@ -92,8 +92,8 @@ impl Writer<'_> {
     // Writes all links.
     #[tactic(auto, using(network::proofs::laws::NetworkLaws::limits))]
     fn put_links(&mut self, net: ValidNetwork)
-        requires { HasRoom self.old (link_bytes net.network net.network.links) }
-        ensures { Wrote self.old self.new (link_bytes net.network net.network.links) }
+        requires { HasRoom self.old (link_bytes max_groups net.network net.network.links) }
+        ensures { Wrote self.old self.new (link_bytes max_groups net.network net.network.links) }
     {
         for link in net.each_link() {
             self.put_link(link);

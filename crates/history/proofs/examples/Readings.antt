@@ -7,7 +7,7 @@ use Rattle.min_cut.specs.FirstWord.{first, least_min_cut}
 use Rattle.base.specs.Word.{holds, word}
 use Rattle.base.specs.Basics.{all, every, blank, among, same}
 use Rattle.network.specs.Network.{network_fits}
-use Rattle.network_file.specs.Number.{read_groups, read_number}
+use Rattle.network_file.specs.Number.{read_groups}
 use Rattle.network_file.specs.Reading.{taken, link_at, read_link, read_links, read_all, read_file}
 use Rattle.cut_tree.specs.Rule.{moved, stepped, rule_by, least_cut, rule}
 use Rattle.cut_tree.specs.Rebuild.{kept_by, kept_or_least_by, rebuilt_by, rebuilt}
@@ -127,7 +127,7 @@ table =
     ∷ []
 
 pub readings : all_stand table ≡ true
-unfolding sum cut_value holds first least_min_cut word all every blank network_fits read_groups read_number taken link_at
+unfolding sum cut_value holds first least_min_cut word all every blank network_fits read_groups taken link_at
     read_link read_links read_all read_file moved stepped rule_by least_cut rule kept_by kept_or_least_by rebuilt_by rebuilt
     reaches climb among lightest_on lightest_of side_of answer tree_fits steps_fit stack_fits lightest_among sound digits
     text_of open_of change_number undo_number altered change_of undo_of pair_number pair_of preview_of same last played stands

@@ -12,7 +12,7 @@ use Rattle.base.proofs.laws.BlankLaws.{zeros_at}
 use Rattle.network.specs.Limits.{max_nodes, max_capacity}
 use Rattle.network.specs.Network.{network_fits, WithinLimits, flow_at, total_of}
 use Rattle.network.specs.declared.Network.{Network}
-use Rattle.network_file.specs.Number.{read_groups, read_number, group_bytes, number_bytes}
+use Rattle.network_file.specs.Number.{read_groups, group_bytes}
 use Rattle.network_file.specs.Reading.{taken, link_at, read_link, read_links, read_all, read_file}
 use Rattle.network_file.specs.Writing.{link_bytes, file_of}
 use Rattle.cut_tree.specs.Rule.{moved, stepped, rule_by, least_cut, rule, no_tree}
@@ -40,7 +40,7 @@ use Rattle.history.specs.WrongPrograms.{asking, changing, leaving_the_edge, stac
 
 -- the fresh plan has all parents 0, where resort A's tree has parent 2
 stale : (count : ℕ) → ¬ (Reopens (stacking plan_a 3 4 count).plan)
-unfolding sum cut_value holds first least_min_cut all every blank network_fits read_groups read_number group_bytes number_bytes
+unfolding sum cut_value holds first least_min_cut all every blank network_fits read_groups group_bytes
     taken link_at read_link read_links read_all read_file link_bytes file_of moved stepped rule_by least_cut rule reaches
     tree_fits steps_fit stack_fits lightest_of lightest_among sound open_of write_number write_of written_to
 stale count h =
@@ -57,8 +57,8 @@ once_right count = refl
 
 -- but not over the list: of the second plan, with weights 8, 8 and 8, the fresh one has weight 6 at node 2
 pub works_once_lem : (count : ℕ) → ¬ (Demand3 plan_a (twice count))
-unfolding left sum cut_value holds first least_min_cut all every blank network_fits read_groups read_number group_bytes
-    number_bytes taken link_at read_link read_links read_all read_file link_bytes file_of moved stepped rule_by least_cut rule
+unfolding left sum cut_value holds first least_min_cut all every blank network_fits read_groups group_bytes
+    taken link_at read_link read_links read_all read_file link_bytes file_of moved stepped rule_by least_cut rule
     kept_by kept_or_least_by rebuilt_by rebuilt reaches tree_fits steps_fit stack_fits lightest_of lightest_among sound open_of
     change_number altered change_of write_number write_of written_to
 works_once_lem count d =

@@ -8,7 +8,7 @@ use Rattle.min_cut.specs.FirstWord.{first, least_min_cut}
 use Rattle.base.specs.Word.{holds, word}
 use Rattle.base.specs.Basics.{all, every, blank, among}
 use Rattle.network.specs.Network.{network_fits}
-use Rattle.network_file.specs.Number.{read_groups, read_number}
+use Rattle.network_file.specs.Number.{read_groups}
 use Rattle.network_file.specs.Reading.{taken, link_at, read_link, read_links, read_all, read_file}
 use Rattle.cut_tree.specs.Rule.{moved, stepped, rule_by, least_cut, rule}
 use Rattle.cut_tree.specs.Path.{reaches, climb, lightest_of, lightest_on, side_of, answer}
@@ -37,7 +37,7 @@ listing_a : listing_of resort_a ≡
     112 ∷ 97 ∷ 105 ∷ 114 ∷ 32 ∷ 49 ∷ 32 ∷ 51 ∷ 32 ∷ 54 ∷ 32 ∷ 51 ∷ 10 ∷  -- pair 1 3 6 3
     112 ∷ 97 ∷ 105 ∷ 114 ∷ 32 ∷ 50 ∷ 32 ∷ 51 ∷ 32 ∷ 54 ∷ 32 ∷ 55 ∷ 10 ∷  -- pair 2 3 6 7
     []
-unfolding sum cut_value holds first least_min_cut word all every blank network_fits read_groups read_number taken link_at
+unfolding sum cut_value holds first least_min_cut word all every blank network_fits read_groups taken link_at
     read_link read_links read_all read_file moved stepped rule_by least_cut rule reaches climb among lightest_on lightest_of
     side_of answer size digits tree_fits steps_fit stack_fits lightest_among sound open_of pair_number pair_of decimals_of
     tree_line tree_lines pair_line pairs_of pair_lines plan_lines listing_of
@@ -45,14 +45,14 @@ listing_a = refl
 
 -- one node prints nothing
 one_node : listing_of (0x01 ∷ 0x00 ∷ []) ≡ []
-unfolding read_groups read_number taken read_links read_all read_file rule_by rule open_of tree_lines pairs_of pair_lines
+unfolding read_groups taken read_links read_all read_file rule_by rule open_of tree_lines pairs_of pair_lines
     plan_lines listing_of
 one_node = refl
 
 -- a link from a node to itself: "refused 7 3"
 itself : listing_of (0x02 ∷ 0x01 ∷ 0x00 ∷ 0x00 ∷ 0x00 ∷ []) ≡ 114 ∷ 101 ∷ 102 ∷ 117 ∷ 115 ∷ 101 ∷ 100 ∷ 32 ∷ 55 ∷ 32 ∷ 51
     ∷ 10 ∷ []
-unfolding read_groups read_number taken link_at read_link read_links read_all read_file open_of digits decimals_of refused_line
+unfolding read_groups taken link_at read_link read_links read_all read_file open_of digits decimals_of refused_line
     listing_of
 itself = refl
 

@@ -3,7 +3,7 @@
 use Rattle.std.specs.Prelude.{ℕ, ◌≡◌, refl, Bool, true, ◌&&◌, List, [], ◌∷◌, take, eqb}
 use Rattle.base.specs.Basics.{every, blank, blank_from, same}
 use Rattle.network.specs.declared.Network.{Network}
-use Rattle.network_file.specs.Number.{read_groups, read_number, group_bytes, number_bytes, bytes_of}
+use Rattle.network_file.specs.Number.{read_groups, group_bytes, bytes_of}
 use Rattle.network_file.specs.Reading.{taken, link_at, read_link, read_links, read_all, read_file}
 use Rattle.network_file.specs.Writing.{link_bytes, file_of, max_link, max_file, max_read}
 
@@ -84,6 +84,6 @@ longest : (max_link ≡ 5) × (max_file ≡ 1283) × (max_read ≡ 1284)
 longest = (refl, refl, refl)
 
 pub readings : all_hold table ≡ true
-unfolding every blank read_groups read_number group_bytes number_bytes taken link_at read_link read_links read_all read_file
+unfolding every blank read_groups group_bytes taken link_at read_link read_links read_all read_file
     link_bytes file_of same holds all_hold table
 readings = refl

@@ -8,7 +8,7 @@ use Rattle.std.proofs.Math.Seq.{get_or-set_other}
 use Rattle.base.specs.Basics.{at}
 use Rattle.base.proofs.laws.TestLaws.{all_in, none, ◌&◌, test}
 use Rattle.base.proofs.laws.BlankLaws.{blank_in, zeros_at}
-use Rattle.network.specs.Limits.{max_nodes, max_links, max_capacity}
+use Rattle.network.specs.Limits.{max_nodes, max_links, max_capacity, max_groups}
 use Rattle.network.specs.Network.{link_fits, network_fits, Sized, WithinLimits}
 use Rattle.network.specs.declared.Network.{Network}
 use Rattle.network_file.specs.Number.{number_bytes}
@@ -73,7 +73,7 @@ module _ (n m k : ℕ) (net : Network) (f : Filled n m k net) (kl : k < max_link
           (f.fit i (omega arith))
 
   -- the bytes of the links so far do not change
-  bytes_below : (j : ℕ) → j ≤ k → link_bytes (with_link net k a b c) j ≡ link_bytes net j
+  bytes_below : (j : ℕ) → j ≤ k → link_bytes max_groups (with_link net k a b c) j ≡ link_bytes max_groups net j
   unfolding link_bytes
   bytes_below zero l = refl
   bytes_below (suc j) l =
@@ -85,7 +85,8 @@ module _ (n m k : ℕ) (net : Network) (f : Filled n m k net) (kl : k < max_link
         get_or-set_other net.capacity k j c 0 d,
       )
 
-  pub bytes_more : link_bytes (with_link net k a b c) (suc k) ≡ link_bytes net k ++ (number_bytes a ++ (number_bytes b ++ number_bytes c))
+  pub bytes_more : link_bytes max_groups (with_link net k a b c) (suc k)
+      ≡ link_bytes max_groups net k ++ (number_bytes a ++ (number_bytes b ++ number_bytes c))
   unfolding link_bytes
   bytes_more = rw (bytes_below k (omega arith), a_same, b_same, c_same)
 

@@ -24,7 +24,6 @@ groups_most (suc most) v = go (ltb v 128) refl (groups_most most (v / 128))
     go false e ih = rw (more_groups most v (ltb-false v 128 e)) (omega arith)
 
 pub number_most : (v : ℕ) → length (number_bytes v) ≤ max_groups
-unfolding number_bytes
 number_most v = groups_most max_groups v
 
 -- a number has the bytes that are counted, and a smaller one has no more
@@ -50,7 +49,6 @@ groups_up (suc most) v w l = go (ltb v 128) (ltb w 128) refl refl (groups_up mos
     go false false e f ih = omega arith
 
 pub number_up : (v w : ℕ) → v ≤ w → length (number_bytes v) ≤ bytes_of w
-unfolding number_bytes
 number_up v w l = omega (arith, groups_length max_groups v, groups_up max_groups v w l)
 
 -- so has a number that is read, be its groups bytes or not
@@ -66,7 +64,7 @@ pub stands_up : {s : List ℕ} {place v size : ℕ} (w : ℕ) → Stands s place
 stands_up {v = v} w st l = omega (arith, groups_size st.groups max_groups st.few, groups_up max_groups v w l)
 
 -- ---- the file
-pub links_most : (net : Network) → network_fits net ≡ true → (k : ℕ) → k ≤ net.links → length (link_bytes net k) ≤ k * max_link
+pub links_most : (net : Network) → network_fits net ≡ true → (k : ℕ) → k ≤ net.links → length (link_bytes max_groups net k) ≤ k * max_link
 unfolding link_bytes
 links_most net e zero l = omega arith
 links_most net e (suc k) l =
@@ -115,10 +113,9 @@ group_bytes_lem (suc most) v l = go (ltb v 128) refl (group_bytes_lem most (v / 
         (bytes_append ((128 + v % 128) ∷ []) (group_bytes most (v / 128)) (one (128 + v % 128) (omega arith)) ih)
 
 number_bytes_lem : (v : ℕ) → v < 128 ^ max_groups → Bytes (number_bytes v)
-unfolding number_bytes
 number_bytes_lem v l = group_bytes_lem max_groups v l
 
-links_bytes : (net : Network) → network_fits net ≡ true → (k : ℕ) → k ≤ net.links → Bytes (link_bytes net k)
+links_bytes : (net : Network) → network_fits net ≡ true → (k : ℕ) → k ≤ net.links → Bytes (link_bytes max_groups net k)
 unfolding link_bytes
 links_bytes net e zero l = λ i. omega arith
 links_bytes net e (suc k) l =
@@ -128,7 +125,7 @@ links_bytes net e (suc k) l =
     let A = number_bytes (at net.a k) in
     let B = number_bytes (at net.b k) in
     let C = number_bytes (at net.capacity k) in
-    bytes_append (link_bytes net k) (A ++ (B ++ C)) (links_bytes net e k (omega arith))
+    bytes_append (link_bytes max_groups net k) (A ++ (B ++ C)) (links_bytes net e k (omega arith))
     (bytes_append A (B ++ C) (number_bytes_lem (at net.a k) (omega arith))
     (bytes_append B C (number_bytes_lem (at net.b k) (omega arith)) (number_bytes_lem (at net.capacity k) (omega arith))))
 
@@ -139,7 +136,7 @@ file_bytes net e =
     let ml = links_le net e in
     let N = number_bytes net.nodes in
     let M = number_bytes net.links in
-    let LB = link_bytes net net.links in
+    let LB = link_bytes max_groups net net.links in
     bytes_append N (M ++ LB) (number_bytes_lem net.nodes (omega arith))
     (bytes_append M LB (number_bytes_lem net.links (omega arith)) (links_bytes net e net.links (omega arith)))
 
@@ -157,5 +154,5 @@ largest_within =
     }
 
 pub largest_longest : length (file_of largest) ≡ max_file
-unfolding file_of link_bytes number_bytes group_bytes
+unfolding file_of link_bytes group_bytes
 largest_longest = refl

@@ -5,8 +5,7 @@ use Rattle.std.proofs.Common.{ap, ap₂, ◌∙◌, arith, pow-suc, lt-ltb, le-l
 use Rattle.std.proofs.Math.Nat.{one-le-pow}
 use Rattle.std.proofs.lemmas.Bool.{eqb-false}
 use Rattle.base.specs.Basics.{pick, at}
-use Rattle.network.specs.Limits.{max_groups}
-use Rattle.network_file.specs.Number.{continued, read_groups, read_number, group_bytes, number_bytes, Bytes}
+use Rattle.network_file.specs.Number.{continued, read_groups, group_bytes, Bytes}
 use Rattle.network_file.specs.Faults.{Groups, last, more, Topped, EndsEarly, TooLong, ZeroLast}
 use Rattle.network_file.specs.Number.{Number}
 use Rattle.network_file.specs.Number.{Value, Refused}
@@ -116,11 +115,6 @@ read_groups_lem (suc most) v rest p l = go (ltb v 128) refl (read_groups_lem mos
         several_groups : (k : ℕ) → 128 ≤ v → v < 128 ^ suc k → 0 < k
         several_groups zero h w = absurd (omega arith)
         several_groups (suc k) h w = omega arith
-
-pub read_written_number : (v : ℕ) (rest : List ℕ) → v < 128 ^ max_groups
-    → read_number (number_bytes v ++ rest) ≡ Value v (length (number_bytes v))
-unfolding read_number number_bytes
-read_written_number v rest l = read_groups_lem max_groups v rest (omega arith) l
 
 pub size_pos : {t : List ℕ} {v size : ℕ} → Groups t v size → 0 < size
 size_pos (last l) = omega arith

@@ -25,12 +25,11 @@ seen_refused e (sees_three h) q = let z : 3 ≡ e = ap refusal_in q in omega ari
 seen_refused e (sees_value g l) q = absurd (refused_value (sym q))
 
 refused_some : (t : List ℕ) (e : ℕ) → read_number t ≡ Refused e → e ≢ 0
-unfolding read_number
 refused_some t e q = seen_refused e (seen max_groups t) q
 
 module _ (s : List ℕ) (place : ℕ) where
   module _ (row : ℕ → ℕ) where
-    pub takes_none : (e : ℕ) → read_number (drop place s) ≡ Refused e → no_number e place ≡ taken s place row
+    pub takes_none : (e : ℕ) → read_number (drop place s) ≡ Refused e → no_number e place ≡ taken max_groups s place row
     unfolding taken
     takes_none e q = rw q (go e (refused_some (drop place s) e q))
       where
@@ -39,11 +38,11 @@ module _ (s : List ℕ) (place : ℕ) where
         go (suc e) n = rw (lt-ltb 0 (suc e) (omega arith))
 
     module _ (v size : ℕ) (q : read_number (drop place s) ≡ Value v size) (e : ℕ) (row_is : e ≡ row v) where
-      pub takes_wrong : e ≢ 0 → no_number e place ≡ taken s place row
+      pub takes_wrong : e ≢ 0 → no_number e place ≡ taken max_groups s place row
       unfolding taken
       takes_wrong n = rw (q, sym row_is) (sym (refused_by e (a_number v (place + size)) (λ e. no_number e place) n))
 
-      pub takes_value : e ≡ 0 → a_number v (place + size) ≡ taken s place row
+      pub takes_value : e ≡ 0 → a_number v (place + size) ≡ taken max_groups s place row
       unfolding taken
       takes_value z = rw (q, sym row_is, z)
 
@@ -55,7 +54,6 @@ module _ (s : List ℕ) (place : ℕ) where
 
   -- reading does not go past the end
   pub value_within : (v size : ℕ) → place ≤ length s → read_number (drop place s) ≡ Value v size → place + size ≤ length s
-  unfolding read_number
   value_within v size l q =
       let h = size_in_lem (seen max_groups (drop place s)) in
       let z : size_in (read_number (drop place s)) ≡ size = ap size_in q in
@@ -80,21 +78,22 @@ module _ (s : List ℕ) (place : ℕ) (row : ℕ → ℕ) where
   by_number (sees_three h) = stops
   by_number (sees_value {v} {size} g l) = by_row v size (row v) refl
 
-  ways : Ways s place row (taken s place row)
-  unfolding taken read_number
+  ways : Ways s place row (taken max_groups s place row)
+  unfolding taken
   ways = by_number (seen max_groups (drop place s))
 
 -- ---- of an equal file
-pub in_file : (place : ℕ) (row : ℕ → ℕ) {s s' : List ℕ} {t : Taken} → s' ≡ s → t ≡ taken s' place row → t ≡ taken s place row
-in_file place row {t = t} e h = subst (λ (s : List ℕ). t ≡ taken s place row) e h
+pub in_file : (place : ℕ) (row : ℕ → ℕ) {s s' : List ℕ} {t : Taken} → s' ≡ s → t ≡ taken max_groups s' place row
+    → t ≡ taken max_groups s place row
+in_file place row {t = t} e h = subst (λ (s : List ℕ). t ≡ taken max_groups s place row) e h
 
-pub link_in_file : (third : ℕ → ℕ) (place n : ℕ) {s s' : List ℕ} {l : Link} → s' ≡ s → l ≡ link_at third s' place n
-    → l ≡ link_at third s place n
-link_in_file third place n {l = l} e h = subst (λ (s : List ℕ). l ≡ link_at third s place n) e h
+pub link_in_file : (third : ℕ → ℕ) (place n : ℕ) {s s' : List ℕ} {l : Link} → s' ≡ s → l ≡ link_at max_groups third s' place n
+    → l ≡ link_at max_groups third s place n
+link_in_file third place n {l = l} e h = subst (λ (s : List ℕ). l ≡ link_at max_groups third s place n) e h
 
-pub links_in_file : (third : ℕ → ℕ) (m : ℕ) (r : Progress) {s s' : List ℕ} {p : Progress} → s' ≡ s → p ≡ read_links third s' m r
-    → p ≡ read_links third s m r
-links_in_file third m r {p = p} e h = subst (λ (s : List ℕ). p ≡ read_links third s m r) e h
+pub links_in_file : (third : ℕ → ℕ) (m : ℕ) (r : Progress) {s s' : List ℕ} {p : Progress} → s' ≡ s → p ≡ read_links max_groups third s' m r
+    → p ≡ read_links max_groups third s m r
+links_in_file third m r {p = p} e h = subst (λ (s : List ℕ). p ≡ read_links max_groups third s m r) e h
 
 -- ---- a number, and on; the code has a number of its own for each refusal
 -- where a `map_err` puts the place to a refusal
@@ -110,14 +109,14 @@ mapped (Err e) f place h fault =
     let q = fault e h in (ap (λ (f : Fault). Err f.refusal) (sym q), ap (λ (f : Fault). f.place) q)
 
 module _ (s : List ℕ) (place : ℕ) (row : ℕ → ℕ) where
-  pub passes : (v next : ℕ) → a_number v next ≡ taken s place row → row v ≡ 0
+  pub passes : (v next : ℕ) → a_number v next ≡ taken max_groups s place row → row v ≡ 0
   passes v next h = subst (λ (t : Taken). t.number ≡ 0 → row t.value ≡ 0) (sym h) (go (ways s place row)) refl
     where
       go : {t : Taken} → Ways s place row t → t.number ≡ 0 → row t.value ≡ 0
       go stops e = absurd (omega arith)
       go (goes z) e = z
 
-  stops_there : (t : Taken) → t ≡ taken s place row → t.number ≢ 0 → t.next ≡ place
+  stops_there : (t : Taken) → t ≡ taken max_groups s place row → t.number ≢ 0 → t.next ≡ place
   stops_there t h = subst (λ (t : Taken). t.number ≢ 0 → t.next ≡ place) (sym h) (go (ways s place row))
     where
       go : {t : Taken} → Ways s place row t → t.number ≢ 0 → t.next ≡ place
@@ -128,12 +127,12 @@ module _ (s : List ℕ) (place : ℕ) (row : ℕ → ℕ) where
     on : Taken → A
     on t = accepted t.number (next t.value t.next) (λ e. stop e place)
 
-    pub goes_on : (v q : ℕ) → a_number v q ≡ taken s place row → next v q ≡ taking s place row stop next
+    pub goes_on : (v q : ℕ) → a_number v q ≡ taken max_groups s place row → next v q ≡ taking max_groups s place row stop next
     unfolding on
     goes_on v q h = ap on h
 
-    pub stops_at : (r : Refusal) (q : ℕ) → no_number (refusal_number r) q ≡ taken s place row
-        → stop (refusal_number r) q ≡ taking s place row stop next
+    pub stops_at : (r : Refusal) (q : ℕ) → no_number (refusal_number r) q ≡ taken max_groups s place row
+        → stop (refusal_number r) q ≡ taking max_groups s place row stop next
     unfolding on
     stops_at r q h =
         let there : q ≡ place = stops_there (no_number (refusal_number r) q) h (refusal_some r) in
@@ -147,17 +146,17 @@ nodes_row_lem v z = go (eqb v 0) (ltb max_nodes v) refl (passed_row (eqb v 0 || 
     go true d e q = absurd (true≢false q)
     go false d e q = ltb-false max_nodes v (e ∙ q)
 
-pub end_below : (s : List ℕ) (place n a next : ℕ) → a_number a next ≡ taken s place (end_row n) → a < n
+pub end_below : (s : List ℕ) (place n a next : ℕ) → a_number a next ≡ taken max_groups s place (end_row n) → a < n
 end_below s place n a next h = (below a n).0 (passed_row (not (ltb a n)) 5 _ (passes s place (end_row n) a next h))
 
-pub other_end_below : (s : List ℕ) (place n a b next : ℕ) → a_number b next ≡ taken s place (other_end_row n a) → b < n
+pub other_end_below : (s : List ℕ) (place n a b next : ℕ) → a_number b next ≡ taken max_groups s place (other_end_row n a) → b < n
 other_end_below s place n a b next h =
     (below b n).0 (passed_row (not (ltb b n)) 5 _ (passes s place (other_end_row n a) b next h))
 
-pub nodes_within : (s : List ℕ) (place n next : ℕ) → a_number n next ≡ taken s place nodes_row → n ≤ max_nodes
+pub nodes_within : (s : List ℕ) (place n next : ℕ) → a_number n next ≡ taken max_groups s place nodes_row → n ≤ max_nodes
 nodes_within s place n next h = nodes_row_lem n (passes s place nodes_row n next h)
 
-pub links_within : (s : List ℕ) (place m next : ℕ) → a_number m next ≡ taken s place links_row → m ≤ max_links
+pub links_within : (s : List ℕ) (place m next : ℕ) → a_number m next ≡ taken max_groups s place links_row → m ≤ max_links
 links_within s place m next h =
     (not_above max_links m).0 (passed_row (ltb max_links m) 4 _ (passes s place links_row m next h))
 
@@ -167,74 +166,74 @@ module _ (third : ℕ → ℕ) (s : List ℕ) (place n : ℕ) where
   last a b c next = record { number = 0; place = next; a = a; b = b; capacity = c }
 
   abbrev from_c : ℕ → ℕ → ℕ → Link
-  from_c a b q = taking s q third no_link (last a b)
+  from_c a b q = taking max_groups s q third no_link (last a b)
 
   abbrev from_b : ℕ → ℕ → Link
-  from_b a p = taking s p (other_end_row n a) no_link (from_c a)
+  from_b a p = taking max_groups s p (other_end_row n a) no_link (from_c a)
 
-  pub a_stops : (r : Refusal) (q : ℕ) → no_number (refusal_number r) q ≡ taken s place (end_row n)
-      → no_link (refusal_number r) q ≡ link_at third s place n
+  pub a_stops : (r : Refusal) (q : ℕ) → no_number (refusal_number r) q ≡ taken max_groups s place (end_row n)
+      → no_link (refusal_number r) q ≡ link_at max_groups third s place n
   unfolding link_at
   a_stops = stops_at s place (end_row n) no_link from_b
 
-  module _ (a p : ℕ) (a_is : a_number a p ≡ taken s place (end_row n)) where
-    on_a : from_b a p ≡ link_at third s place n
+  module _ (a p : ℕ) (a_is : a_number a p ≡ taken max_groups s place (end_row n)) where
+    on_a : from_b a p ≡ link_at max_groups third s place n
     unfolding link_at
     on_a = goes_on s place (end_row n) no_link from_b a p a_is
 
-    pub b_stops : (r : Refusal) (q : ℕ) → no_number (refusal_number r) q ≡ taken s p (other_end_row n a)
-        → no_link (refusal_number r) q ≡ link_at third s place n
+    pub b_stops : (r : Refusal) (q : ℕ) → no_number (refusal_number r) q ≡ taken max_groups s p (other_end_row n a)
+        → no_link (refusal_number r) q ≡ link_at max_groups third s place n
     b_stops r q h = stops_at s p (other_end_row n a) no_link (from_c a) r q h ∙ on_a
 
-    module _ (b q : ℕ) (b_is : a_number b q ≡ taken s p (other_end_row n a)) where
-      on_b : from_c a b q ≡ link_at third s place n
+    module _ (b q : ℕ) (b_is : a_number b q ≡ taken max_groups s p (other_end_row n a)) where
+      on_b : from_c a b q ≡ link_at max_groups third s place n
       on_b = goes_on s p (other_end_row n a) no_link (from_c a) b q b_is ∙ on_a
 
-      pub c_stops : (r : Refusal) (u : ℕ) → no_number (refusal_number r) u ≡ taken s q third
-          → no_link (refusal_number r) u ≡ link_at third s place n
+      pub c_stops : (r : Refusal) (u : ℕ) → no_number (refusal_number r) u ≡ taken max_groups s q third
+          → no_link (refusal_number r) u ≡ link_at max_groups third s place n
       c_stops r u h = stops_at s q third no_link (last a b) r u h ∙ on_b
 
-      pub link_taken : (c u : ℕ) → a_number c u ≡ taken s q third → last a b c u ≡ link_at third s place n
+      pub link_taken : (c u : ℕ) → a_number c u ≡ taken max_groups s q third → last a b c u ≡ link_at max_groups third s place n
       link_taken c u h = goes_on s q third no_link (last a b) c u h ∙ on_b
 
 -- ---- the file, by n, m and the links that were read
 module _ (third : ℕ → ℕ) (s : List ℕ) where
   abbrev links_on : ℕ → ℕ → ℕ → Progress
-  links_on n m next = after (read_links third s m (going next (unread n m))) (ended s)
+  links_on n m next = after (read_links max_groups third s m (going next (unread n m))) (ended s)
 
   abbrev from_m : ℕ → ℕ → Progress
-  from_m n next = taking s next links_row stopped (links_on n)
+  from_m n next = taking max_groups s next links_row stopped (links_on n)
 
-  pub n_stops : (r : Refusal) (q : ℕ) → no_number (refusal_number r) q ≡ taken s 0 nodes_row
-      → stopped (refusal_number r) q ≡ read_all third s
+  pub n_stops : (r : Refusal) (q : ℕ) → no_number (refusal_number r) q ≡ taken max_groups s 0 nodes_row
+      → stopped (refusal_number r) q ≡ read_all max_groups third s
   unfolding read_all
   n_stops = stops_at s 0 nodes_row stopped from_m
 
-  module _ (n p : ℕ) (n_is : a_number n p ≡ taken s 0 nodes_row) where
-    on_n : from_m n p ≡ read_all third s
+  module _ (n p : ℕ) (n_is : a_number n p ≡ taken max_groups s 0 nodes_row) where
+    on_n : from_m n p ≡ read_all max_groups third s
     unfolding read_all
     on_n = goes_on s 0 nodes_row stopped from_m n p n_is
 
-    pub m_stops : (r : Refusal) (q : ℕ) → no_number (refusal_number r) q ≡ taken s p links_row
-        → stopped (refusal_number r) q ≡ read_all third s
+    pub m_stops : (r : Refusal) (q : ℕ) → no_number (refusal_number r) q ≡ taken max_groups s p links_row
+        → stopped (refusal_number r) q ≡ read_all max_groups third s
     m_stops r q h = stops_at s p links_row stopped (links_on n) r q h ∙ on_n
 
-    module _ (m q : ℕ) (m_is : a_number m q ≡ taken s p links_row) where
-      on_m : (r : Progress) → r ≡ read_links third s m (going q (unread n m)) → after r (ended s) ≡ read_all third s
+    module _ (m q : ℕ) (m_is : a_number m q ≡ taken max_groups s p links_row) where
+      on_m : (r : Progress) → r ≡ read_links max_groups third s m (going q (unread n m)) → after r (ended s) ≡ read_all max_groups third s
       on_m r h =
           ap (λ (r : Progress). after r (ended s)) h ∙ goes_on s p links_row stopped (links_on n) m q m_is ∙ on_n
 
-      pub links_stop : (r : Refusal) (u : ℕ) → stopped (refusal_number r) u ≡ read_links third s m (going q (unread n m))
-          → stopped (refusal_number r) u ≡ read_all third s
+      pub links_stop : (r : Refusal) (u : ℕ) → stopped (refusal_number r) u ≡ read_links max_groups third s m (going q (unread n m))
+          → stopped (refusal_number r) u ≡ read_all max_groups third s
       links_stop r u h =
           let stop = stopped (refusal_number r) u in
           sym (refused_by (refusal_number r) (ended s u no_network) (λ e. stop) (refusal_some r)) ∙ on_m stop h
 
-      module _ (net : Network) (u : ℕ) (net_is : going u net ≡ read_links third s m (going q (unread n m))) where
-        pub bytes_follow_lem : u < length s → stopped 9 u ≡ read_all third s
+      module _ (net : Network) (u : ℕ) (net_is : going u net ≡ read_links max_groups third s m (going q (unread n m))) where
+        pub bytes_follow_lem : u < length s → stopped 9 u ≡ read_all max_groups third s
         bytes_follow_lem l = let h = on_m (going u net) net_is in rw (lt-ltb u (length s) l) at h
 
-        pub all_done : length s ≤ u → going u net ≡ read_all third s
+        pub all_done : length s ≤ u → going u net ≡ read_all max_groups third s
         all_done l = let h = on_m (going u net) net_is in rw (le-ltb u (length s) l) at h
 
 -- ---- the reply, by the whole file
@@ -242,14 +241,14 @@ module _ (third : ℕ → ℕ) (s : List ℕ) where
   reply : Progress → Reading
   reply r = record { number = r.number; place = accepted r.number 0 (λ e. r.place); network = r.network }
 
-  pub file_refused : (r : Refusal) (u : ℕ) → stopped (refusal_number r) u ≡ read_all third s
-      → record { number = refusal_number r; place = u; network = no_network } ≡ read_by third s
+  pub file_refused : (r : Refusal) (u : ℕ) → stopped (refusal_number r) u ≡ read_all max_groups third s
+      → record { number = refusal_number r; place = u; network = no_network } ≡ read_by max_groups third s
   unfolding reply
   file_refused r u h =
       let refused : ℕ → Reading = λ place. record { number = refusal_number r; place = place; network = no_network } in
       ap refused (sym (refused_by (refusal_number r) 0 (λ e. u) (refusal_some r))) ∙ ap reply h
 
-  pub file_read : (net : Network) (u : ℕ) → going u net ≡ read_all third s
-      → record { number = 0; place = 0; network = net } ≡ read_by third s
+  pub file_read : (net : Network) (u : ℕ) → going u net ≡ read_all max_groups third s
+      → record { number = 0; place = 0; network = net } ≡ read_by max_groups third s
   unfolding reply
   file_read net u h = ap reply h

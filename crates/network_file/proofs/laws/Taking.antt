@@ -4,7 +4,7 @@ use Rattle.std.proofs.Common.{ap, ◌∙◌, arith, take-add, get_or-drop, ltb-t
 use Rattle.std.proofs.lemmas.Bool.{eqb-false}
 use Rattle.base.specs.Checks.{check, accepted}
 use Rattle.network.specs.Limits.{max_nodes, max_links, max_capacity, max_groups}
-use Rattle.network_file.specs.Number.{read_number, refusal_in, value_in, size_in, number_bytes, Bytes}
+use Rattle.network_file.specs.Number.{refusal_in, value_in, size_in, number_bytes, Bytes}
 use Rattle.network_file.specs.Reading.{nodes_row, links_row, end_row, other_end_row, capacity_row, no_number, a_number, taken, taking}
 use Rattle.network_file.specs.Faults.{Stands, Field, nodes, links, end, other_end, capacity, number, Wrong, four, five, six, six_later}
 use Rattle.network_file.specs.Faults.{seven, eight, Bad, one, two, three, by_row}
@@ -12,13 +12,17 @@ use Rattle.network_file.proofs.laws.NumberLaws.{Seen, sees_one, sees_two, sees_t
 use Rattle.network_file.specs.Number.{Number}
 use Rattle.network_file.specs.Reading.{Taken}
 
+-- the row of a capacity, within the present limits
+abbrev pub file_row : ℕ → ℕ
+file_row = capacity_row max_capacity
+
 -- the reader's row of each number
 abbrev pub field_row : Field → ℕ → ℕ
 field_row nodes = nodes_row
 field_row (links n) = links_row
 field_row (end n left) = end_row n
 field_row (other_end n left a) = other_end_row n a
-field_row (capacity n left) = capacity_row
+field_row (capacity n left) = file_row
 
 abbrev pub Passes : Field → ℕ → Type 0
 Passes x v = (e : ℕ) → Wrong x v e → ⊥
@@ -114,8 +118,8 @@ module _ (s : List ℕ) (place : ℕ) (x : Field) where
   by_number (sees_three h) = stops (three h)
   by_number (sees_value {v = v} g l) = by_its_row (record { groups = g; few = l }) (row_told x v)
 
-  pub took : Took s place x (taken s place (field_row x))
-  unfolding taken read_number
+  pub took : Took s place x (taken max_groups s place (field_row x))
+  unfolding taken
   took = by_number (seen max_groups (drop place s))
 
 -- so of whatever is made by `taking`: a fact holds of it, if it holds where the number is refused, and where it stands and passes
@@ -126,13 +130,12 @@ module _ {A : Type 0} (P : A → Type 0) (s : List ℕ) (place : ℕ) (x : Field
   by_case (stops {e} b) = refused e b
   by_case (goes {v} {size} st p) = passed v size st p
 
-  pub by_taking : P (taking s place (field_row x) stop next)
+  pub by_taking : P (taking max_groups s place (field_row x) stop next)
   by_taking = by_case (took s place x)
 
 -- ---- of a file of bytes: what was read up to a place, and a number more
 pub stands_written : (s : List ℕ) (place v size : ℕ) → Bytes s → Stands s place v size
     → take (place + size) s ≡ take place s ++ number_bytes v
-unfolding number_bytes
 stands_written s place v size b st =
     let rest : Bytes (drop place s) = λ i. rw get_or-drop (b (place + i)) in
     take-add place size s ∙ ap (λ (l : List ℕ). take place s ++ l) (again st.groups rest max_groups st.few).same

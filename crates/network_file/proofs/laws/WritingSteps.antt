@@ -6,6 +6,7 @@ use Rattle.std.proofs.Math.Decide.{ℕ_discrete}
 use Rattle.std.specs.List.{sum_by}
 use Rattle.base.specs.Basics.{at}
 use Rattle.base.specs.Sum.{sum}
+use Rattle.network.specs.Limits.{max_groups}
 use Rattle.network.specs.code.Links.{IsLink}
 use Rattle.network.specs.declared.Network.{Network}
 use Rattle.network.specs.declared.link.Link.{Link}
@@ -22,32 +23,32 @@ use Rattle.base.proofs.laws.PutsLaws.{puts_length, puts_none, puts_then}
 
 -- ---- the links
 abbrev pub link_of : Network → ℕ → List ℕ
-link_of net k = bytes_of_link (at net.a k) (at net.b k) (at net.capacity k)
+link_of net k = bytes_of_link max_groups (at net.a k) (at net.b k) (at net.capacity k)
 
 module _ (net : Network) where
   -- a link by itself
-  pub link_read : {k : ℕ} {l : Link} → IsLink net k l → bytes_of_link l.a l.b l.capacity ≡ link_of net k
+  pub link_read : {k : ℕ} {l : Link} → IsLink net k l → bytes_of_link max_groups l.a l.b l.capacity ≡ link_of net k
   link_read h = rw h.same refl
 
-  lengths : (k : ℕ) → sum k (λ i. length (link_of net i)) ≡ length (link_bytes net k)
+  lengths : (k : ℕ) → sum k (λ i. length (link_of net i)) ≡ length (link_bytes max_groups net k)
   unfolding link_bytes sum
   lengths zero = refl
-  lengths (suc k) = omega (arith, lengths k, length-append (link_bytes net k) (link_of net k))
+  lengths (suc k) = omega (arith, lengths k, length-append (link_bytes max_groups net k) (link_of net k))
 
   -- how many bytes the links have, added up
-  pub links_length : sum_by (λ l. length (bytes_of_link l.a l.b l.capacity)) (links_of net)
-      ≡ length (link_bytes net net.links)
-  links_length = sum_links net (λ l. length (bytes_of_link l.a l.b l.capacity)) ∙ lengths net.links
+  pub links_length : sum_by (λ l. length (bytes_of_link max_groups l.a l.b l.capacity)) (links_of net)
+      ≡ length (link_bytes max_groups net net.links)
+  links_length = sum_links net (λ l. length (bytes_of_link max_groups l.a l.b l.capacity)) ∙ lengths net.links
 
-  pub links_up : (m k : ℕ) → k < m → length (link_bytes net k) + length (link_of net k) ≤ length (link_bytes net m)
+  pub links_up : (m k : ℕ) → k < m → length (link_bytes max_groups net k) + length (link_of net k) ≤ length (link_bytes max_groups net m)
   unfolding link_bytes
   links_up zero k l = absurd (omega arith)
   links_up (suc m) k l = go (ℕ_discrete k m) (λ h. links_up m k h)
     where
-      go : Dec (k ≡ m) → (k < m → length (link_bytes net k) + length (link_of net k) ≤ length (link_bytes net m))
-          → length (link_bytes net k) + length (link_of net k) ≤ length (link_bytes net m ++ link_of net m)
-      go (yes e) ih = rw e (omega (arith, length-append (link_bytes net m) (link_of net m)))
-      go (no n) ih = omega (arith, ih (omega arith), length-append (link_bytes net m) (link_of net m))
+      go : Dec (k ≡ m) → (k < m → length (link_bytes max_groups net k) + length (link_of net k) ≤ length (link_bytes max_groups net m))
+          → length (link_bytes max_groups net k) + length (link_of net k) ≤ length (link_bytes max_groups net m ++ link_of net m)
+      go (yes e) ih = rw e (omega (arith, length-append (link_bytes max_groups net m) (link_of net m)))
+      go (no n) ih = omega (arith, ih (omega arith), length-append (link_bytes max_groups net m) (link_of net m))
 
 -- ---- one run of bytes behind another
 pub none_wrote : (w : Writer) → Wrote w w []
@@ -66,14 +67,14 @@ room_first place size xs ys r = omega (arith, r, length-append xs ys)
 -- ---- the loop: k links are written
 pub record LinksWritten (net : Network) (first now : Writer) (k : ℕ) : Type 0 where
   pub some : k ≤ net.links
-  pub wrote : Wrote first now (link_bytes net k)
+  pub wrote : Wrote first now (link_bytes max_groups net k)
 
 pub none_written : (net : Network) (w : Writer) → LinksWritten net w w 0
 unfolding link_bytes
 none_written net w = record { some = omega arith; wrote = none_wrote w }
 
 module _ {net : Network} {first now : Writer} {k : ℕ} (h : LinksWritten net first now k) (l : k < net.links) where
-  pub has_places : HasRoom first (link_bytes net net.links) → HasRoom now (link_of net k)
+  pub has_places : HasRoom first (link_bytes max_groups net net.links) → HasRoom now (link_of net k)
   has_places r = omega (arith, r, h.wrote.puts.next_is, puts_length h.wrote.puts, links_up net net.links k l)
 
   pub one_written : (behind : Writer) → Wrote now behind (link_of net k) → LinksWritten net first behind (k + 1)
@@ -85,13 +86,13 @@ abbrev written : ℕ → ℕ → FileWritten
 written e size = record { number = e; length = size }
 
 module _ (net : Network) where
-  pub file_long : length (number_bytes net.nodes) + length (number_bytes net.links) + length (link_bytes net net.links)
+  pub file_long : length (number_bytes net.nodes) + length (number_bytes net.links) + length (link_bytes max_groups net net.links)
       ≡ length (file_of net)
   unfolding file_of
-  file_long = three_long (number_bytes net.nodes) (number_bytes net.links) (link_bytes net net.links)
+  file_long = three_long (number_bytes net.nodes) (number_bytes net.links) (link_bytes max_groups net net.links)
 
   pub file_room : {size room : ℕ} → size ≡ length (file_of net) → size ≤ room
-      → 0 + length (number_bytes net.nodes ++ (number_bytes net.links ++ link_bytes net net.links)) ≤ room
+      → 0 + length (number_bytes net.nodes ++ (number_bytes net.links ++ link_bytes max_groups net net.links)) ≤ room
   unfolding file_of
   file_room e h = omega arith
 
@@ -103,7 +104,7 @@ module _ (net : Network) where
 
   pub fills_front : (l : List ℕ) (size : ℕ) (w₀ w₁ w₂ w₃ : Writer) → size ≡ length (file_of net) → size ≤ length l
       → w₀.place ≡ 0 → w₀.out.now ≡ l → Wrote w₀ w₁ (number_bytes net.nodes) → Wrote w₁ w₂ (number_bytes net.links)
-      → Wrote w₂ w₃ (link_bytes net net.links)
+      → Wrote w₂ w₃ (link_bytes max_groups net net.links)
       → (written 0 size ≡ file_write_of net (length l)) × (w₃.out.now ≡ file_written_to net l) × (w₃.out.ghost_name ≡ w₀.out.ghost_name)
   unfolding file_write_of file_written_to file_of
   fills_front l size w₀ w₁ w₂ w₃ q h z e n m k =

@@ -8,7 +8,7 @@ use Rattle.min_cut.specs.FirstWord.{first, least_min_cut}
 use Rattle.base.specs.Word.{holds, word}
 use Rattle.base.specs.Basics.{all, every, blank, among}
 use Rattle.network.specs.Network.{network_fits}
-use Rattle.network_file.specs.Number.{group_bytes, number_bytes}
+use Rattle.network_file.specs.Number.{group_bytes}
 use Rattle.network_file.specs.Writing.{link_bytes, file_of}
 use Rattle.cut_tree.specs.Rule.{moved, stepped, rule_by, least_cut}
 use Rattle.cut_tree.specs.Rebuild.{kept_by, kept_or_least_by, rebuilt_by, rebuilt}
@@ -65,12 +65,12 @@ highest = (refl, refl)
 -- written into a buffer of 20, and into one of 16
 pub written : (write_of plan_a 20 ≡ record { number = 0; length = 17 })
     × (written_to plan_a (replicate 20 7) ≡ resort_a ++ 7 ∷ 7 ∷ 7 ∷ [])
-unfolding holds all every blank network_fits group_bytes number_bytes link_bytes file_of reaches tree_fits steps_fit stack_fits
+unfolding holds all every blank network_fits group_bytes link_bytes file_of reaches tree_fits steps_fit stack_fits
     sound first lightest_of lightest_among write_number write_of written_to
 written = (refl, refl)
 
 pub too_long : (write_of plan_a 16 ≡ record { number = 18; length = 0 })
     × (written_to plan_a (replicate 16 7) ≡ replicate 16 7)
-unfolding holds all every blank network_fits group_bytes number_bytes link_bytes file_of reaches tree_fits steps_fit stack_fits
+unfolding holds all every blank network_fits group_bytes link_bytes file_of reaches tree_fits steps_fit stack_fits
     sound first lightest_of lightest_among write_number write_of written_to
 too_long = (refl, refl)

@@ -6,7 +6,7 @@ use Rattle.min_cut.specs.FirstWord.{first, least_min_cut}
 use Rattle.base.specs.Word.{holds}
 use Rattle.network.specs.Limits.{max_nodes, max_links}
 use Rattle.network.specs.declared.Network.{Network}
-use Rattle.network_file.specs.Number.{read_groups, read_number}
+use Rattle.network_file.specs.Number.{read_groups}
 use Rattle.network_file.specs.Reading.{taken, link_at, read_link, read_links, read_all, read_file}
 use Rattle.cut_tree.specs.Rule.{moved, stepped, rule_by, least_cut, rule}
 use Rattle.cut_tree.specs.Path.{lightest_of}
@@ -52,6 +52,6 @@ abbrev pub plan_a : Plan
 plan_a = plan_with network_a tree_a steps_a no_stack (record { node = 2; weight = 6 })
 
 pub opening_A : open_of resort_a ≡ record { number = 0; place = 0; plan = plan_a }
-unfolding sum cut_value holds first least_min_cut read_groups read_number taken link_at read_link read_links read_all read_file
+unfolding sum cut_value holds first least_min_cut read_groups taken link_at read_link read_links read_all read_file
     moved stepped rule_by least_cut rule lightest_of lightest_among open_of
 opening_A = refl

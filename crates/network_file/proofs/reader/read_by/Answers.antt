@@ -2,6 +2,7 @@
 use Rattle.std.proofs.Common.{◌≡◌, ◌∙◌, arith}
 use Rattle.base.proofs.laws.ResultLaws.{exit_of}
 use Rattle.network.specs.declared.refusals.Refusal.TheVariants.{BytesFollow}
+use Rattle.network.specs.Limits.{max_groups}
 use Rattle.network_file.specs.Reading.{nodes_row, links_row, a_number, taken, going, unread, read_links}
 use Rattle.network_file.specs.code.Parts.{as_read}
 use Rattle.network_file.specs.code.Rows.{row_of}
@@ -12,18 +13,18 @@ use Rattle.network_file.proofs.reader.read_by.Goals as goal
 use Rattle.network_file.proofs.reader.read_by.Goals.{In_ok-n, In_ok-m, In_ok-network}
 
 -- n, m and the links are what the file has
-n-read : (c : In_ok-n) → a_number c.in_ok-n.n c.take.new.self.place ≡ taken c.args.file.now 0 nodes_row
+n-read : (c : In_ok-n) → a_number c.in_ok-n.n c.take.new.self.place ≡ taken max_groups c.args.file.now 0 nodes_row
 n-read c = c.in_ok-n.ensures.value
 
 m-read : (c : In_ok-m)
-    → a_number c.in_ok-m.m c.take-2.new.self.place ≡ taken c.args.file.now c.take.new.self.place links_row
+    → a_number c.in_ok-m.m c.take-2.new.self.place ≡ taken max_groups c.args.file.now c.take.new.self.place links_row
 m-read c = in_file _ _ c.in_ok-n.ensures.file c.in_ok-m.ensures.value
 
 same-file : (c : In_ok-m) → c.take-2.new.self.file.now ≡ c.args.file.now
 same-file c = c.in_ok-m.ensures.file ∙ c.in_ok-n.ensures.file
 
 links-read : (c : In_ok-network) → going c.links.new.self.place c.in_ok-network.network
-    ≡ read_links (row_of c.args.third) c.args.file.now c.in_ok-m.m
+    ≡ read_links max_groups (row_of c.args.third) c.args.file.now c.in_ok-m.m
     (going c.take-2.new.self.place (unread c.in_ok-n.n c.in_ok-m.m))
 links-read c = links_in_file _ _ _ (c.in_ok-m.ensures.file ∙ c.in_ok-n.ensures.file) c.in_ok-network.ensures.value
 

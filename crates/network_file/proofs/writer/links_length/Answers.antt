@@ -1,5 +1,6 @@
 -- `links_length` meets its contract: what the links have, added up.
 use Rattle.std.proofs.Common.{rules, tests, ℕ, length, arith, ◌∙◌}
+use Rattle.network.specs.Limits.{max_groups}
 use Rattle.network.specs.declared.link.Link.{Link}
 use Rattle.network.proofs.laws.NetworkLaws.{links_le}
 use Rattle.network.proofs.laws.EachLink.{links_sum, links_sum_fits}
@@ -9,7 +10,7 @@ use Rattle.network_file.proofs.laws.WritingSteps.{links_length}
 use Rattle.network_file.proofs.writer.links_length.Goals as goal
 
 abbrev long : Link → ℕ
-long l = length (bytes_of_link l.a l.b l.capacity)
+long l = length (bytes_of_link max_groups l.a l.b l.capacity)
 
 pub sum-requires-clause-fits : goal.sum-requires-clause-fits
 sum-requires-clause-fits c =

@@ -1,5 +1,6 @@
 -- `write` meets its contract: the length is known before the first byte is written.
 use Rattle.std.proofs.Common.{refl, arith, rules, ◌++◌, ◌+◌, ◌≤◌, length}
+use Rattle.network.specs.Limits.{max_groups}
 use Rattle.network_file.specs.Number.{number_bytes}
 use Rattle.network_file.specs.Writing.{link_bytes}
 use Rattle.network_file.proofs.laws.WritingSteps.{refuses_short, room_first, room_behind, file_room, fills_front}
@@ -9,7 +10,7 @@ use Rattle.network_file.proofs.writer.write.Goals.{Else-out-length}
 -- a buffer that is long enough has room for the three runs
 room : (c : Else-out-length)
     → let net = c.args.net.network in
-    0 + length (number_bytes net.nodes ++ (number_bytes net.links ++ link_bytes net net.links)) ≤ length c.args.out.now
+    0 + length (number_bytes net.nodes ++ (number_bytes net.links ++ link_bytes max_groups net net.links)) ≤ length c.args.out.now
 room c = file_room c.args.net.network c.file_length-length.ensures c.if-out-length.false
 
 pub returns-then-out-length : goal.returns-then-out-length
