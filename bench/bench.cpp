@@ -57,20 +57,22 @@ static void tables(bool check_only)
     Timed eight("8 nodes, 256 links", several(10, dense, 8, 256));
     Timed four("4 nodes, 256 links", several(10, dense, 4, 256));
     Timed two("2 nodes, 256 links", several(10, dense, 2, 256));
-    printf("%s\n", check_twin({full.nets, thin.nets, eight.nets, four.nets, two.nets}).c_str());
+    Timed top("dense, to 8,000,000", several(20, high, 64, 256));
+    printf("%s\n", check_twin({full.nets, thin.nets, eight.nets, four.nets, two.nets, top.nets}).c_str());
     if (check_only) return;
-    for (auto set : {&full, &thin}) set->add_cuts(), set->add_calls();
+    for (auto set : {&full, &thin, &top}) set->add_cuts();
+    for (auto set : {&full, &thin}) set->add_calls();
     std::vector<Net> many(200, longest_refused());
     if (open_all(many) != many.size() * PAMZOLIT_BYTES_FOLLOW) fail("the file to be read is not refused at its end");
     Meter reading{[&many] { return open_all(many); }};
-    best_of_three({full.group(), thin.group(), eight.group(), four.group(), two.group(), {&reading}});
+    best_of_three({full.group(), thin.group(), top.group(), eight.group(), four.group(), two.group(), {&reading}});
     printf("\n| | us | LEMON's tree, us | ratio | igraph's tree, us | ratio |\n");
     printf("|---|---|---|---|---|---|\n");
-    for (auto set : {&full, &thin, &eight, &four, &two}) rows(*set);
-    printf("| reading 1,283 bytes | %.2f | | | | |\n", reading.best / many.size());
+    for (auto set : {&full, &thin, &top, &eight, &four, &two}) rows(*set);
+    printf("| reading 1,539 bytes | %.2f | | | | |\n", reading.best / many.size());
     printf("\n| per cut | cuts | searches | of these found a way | sweeps | nodes swept |\n");
     printf("|---|---|---|---|---|---|\n");
-    for (auto set : {&full, &thin, &eight, &four, &two}) count_row(*set);
+    for (auto set : {&full, &thin, &top, &eight, &four, &two}) count_row(*set);
     memory();
 }
 

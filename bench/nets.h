@@ -46,6 +46,14 @@ inline Net dense(int n, int m)
     return finish(n, links);
 }
 
+// m links anywhere, of capacities up to the highest
+inline Net high(int n, int m)
+{
+    std::vector<Link> links;
+    for (int k = 0; k < m; k++) links.push_back(between(n)), links.back().c = 1 + draw(8000000);
+    return finish(n, links);
+}
+
 // a spanning tree and some links more
 inline Net sparse(int n, int more)
 {
@@ -75,7 +83,7 @@ inline Net tight(int n, int m, uint32_t top)
 inline Net longest_refused()
 {
     std::vector<Link> links;
-    for (int k = 0; k < 256; k++) links.push_back({k % 63, 63, 1000000u - k});
+    for (int k = 0; k < 256; k++) links.push_back({k % 63, 63, 8000000u - k});
     Net net = finish(64, links);
     net.file.push_back(0);
     return net;

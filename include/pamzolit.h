@@ -48,25 +48,25 @@ extern "C" {
 #define PAMZOLIT_LINKS 256        /* links of a network, at most */
 #define PAMZOLIT_CHANGES 64       /* changes that can be undone, at most */
 #define PAMZOLIT_READINGS 1000000 /* readings since a reset, at most */
-#define PAMZOLIT_FILE_MAX 1283    /* bytes of the longest file */
+#define PAMZOLIT_FILE_MAX 1539    /* bytes of the longest file */
 #define PAMZOLIT_LISTING_MAX 183040 /* the length that pamzolit_listing asks of its buffer */
 
 /* ---- refusal numbers: of several faults the first is given, by the order of checks that each function names */
 enum pamzolit_number {
     PAMZOLIT_ACCEPTED = 0,
     /* of a file, with their place: the offset of the faulty number's first byte, or of the first extra byte */
-    PAMZOLIT_ENDS_EARLY = 1,        /* the file ends before a number's last byte */
-    PAMZOLIT_NUMBER_TOO_LONG = 2,   /* a number's third byte has the top bit set */
+    PAMZOLIT_ENDS_EARLY = 1,        /* the file ends before a number's last byte, behind fewer than four of its bytes */
+    PAMZOLIT_NUMBER_TOO_LONG = 2,   /* a number's fourth byte has the top bit set */
     PAMZOLIT_ZERO_GROUP = 3,        /* a number's last group of several is zero */
     PAMZOLIT_BAD_NODE_COUNT = 4,    /* n is not 1 to 64 */
     PAMZOLIT_TOO_MANY_LINKS = 5,    /* m is above 256 */
     PAMZOLIT_END_NOT_A_NODE = 6,    /* an end of a link is not below n */
     PAMZOLIT_EQUAL_ENDS = 7,        /* a link's ends are equal */
-    PAMZOLIT_LINK_TOO_LARGE = 8,    /* a link's capacity is above 1,000,000 */
+    PAMZOLIT_LINK_TOO_LARGE = 8,    /* a link's capacity is above 8,000,000 */
     PAMZOLIT_BYTES_FOLLOW = 9,      /* bytes follow the last link */
     /* of a change, a preview */
     PAMZOLIT_NO_SUCH_LINK = 10,     /* the link is not below m */
-    PAMZOLIT_CAPACITY_TOO_LARGE = 11, /* the capacity is above 1,000,000 */
+    PAMZOLIT_CAPACITY_TOO_LARGE = 11, /* the capacity is above 8,000,000 */
     PAMZOLIT_STACK_FULL = 12,       /* 64 changes can be undone already */
     /* of an undo */
     PAMZOLIT_NOTHING_TO_UNDO = 13,

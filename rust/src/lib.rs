@@ -99,7 +99,7 @@ pub const LINKS_MAX: usize = 256;
 /// assert!(plan.change(Link(0), CAPACITY_MAX).is_ok() && plan.change(Link(0), CAPACITY_MAX + 1).is_err());
 /// # Ok::<(), pamzolit::FileError>(())
 /// ```
-pub const CAPACITY_MAX: u32 = 1_000_000;
+pub const CAPACITY_MAX: u32 = 8_000_000;
 
 /// The highest demand of a headroom or a reading, in tenths of a megabit per second.
 ///
@@ -142,14 +142,14 @@ pub const READINGS_MAX: u32 = 1_000_000;
 ///
 /// ```
 /// # use pamzolit::{FILE_MAX, Plan};
-/// // 64 nodes; 256 links, each of two ends and a capacity of three groups
+/// // 64 nodes; 256 links, each of two ends and a capacity of four groups
 /// let mut file = vec![64, 0x80, 2];
-/// file.extend([0, 1, 0xc0, 0x84, 0x3d].repeat(256));
+/// file.extend([0, 1, 0x80, 0xa4, 0xe8, 3].repeat(256));
 /// assert_eq!(file.len(), FILE_MAX);
 /// assert_eq!(Plan::open(&file)?.write(), file);
 /// # Ok::<(), pamzolit::FileError>(())
 /// ```
-pub const FILE_MAX: usize = 1_283;
+pub const FILE_MAX: usize = 1_539;
 
 // the length that the archive asks of a listing's buffer: more than any listing has
 const LISTING_MAX: usize = 183_040;

@@ -9,10 +9,11 @@ use random::Random;
 use std::hint::black_box;
 
 const NUMBERS: [usize; 14] = [0, 1, 2, 3, 4, 5, 63, 64, 255, 256, 65_536, 1 << 32, isize::MAX as usize, usize::MAX];
-const WORDS: [u32; 9] = [0, 1, 999_999, 1_000_000, 1_000_001, 1_000_000_000, 1_000_000_001, u32::MAX - 1, u32::MAX];
+const WORDS: [u32; 11] =
+    [0, 1, 999_999, 1_000_000, 1_000_001, 8_000_000, 8_000_001, 1_000_000_000, 1_000_000_001, u32::MAX - 1, u32::MAX];
 
 fn plans() -> Vec<Plan> {
-    let longest = [vec![64, 0x80, 2], [0, 63, 0xc0, 0x84, 0x3d].repeat(256)].concat();
+    let longest = [vec![64, 0x80, 2], [0, 63, 0x80, 0xa4, 0xe8, 3].repeat(256)].concat();
     let files: [&[u8]; 5] =
         [&[1, 0], &[2, 0], &[2, 1, 0, 1, 5], &[4, 5, 0, 1, 5, 1, 2, 3, 2, 3, 4, 0, 3, 2, 0, 2, 1], &longest];
     files.iter().map(|file| Plan::open(file).unwrap()).collect()
@@ -25,7 +26,7 @@ fn full_plan() -> Plan {
 }
 
 fn refusal_of_change(plan: &Plan, link: usize, capacity: u32) -> Option<u32> {
-    let rows = [(10, link >= plan.link_count()), (11, capacity > 1_000_000), (12, plan.changes().len() == 64)];
+    let rows = [(10, link >= plan.link_count()), (11, capacity > 8_000_000), (12, plan.changes().len() == 64)];
     rows.into_iter().find(|row| row.1).map(|row| row.0)
 }
 
@@ -117,7 +118,7 @@ fn readings_out_of_range() {
 fn buffers_of_every_length() {
     for plan in plans() {
         let file = plan.write();
-        for length in (0..=1300).chain([100_000]) {
+        for length in (0..=1560).chain([100_000]) {
             let mut bytes = vec![0xee; length];
             let long = length >= file.len();
             assert_eq!(plan.write_into(&mut bytes), if long { Ok(file.len()) } else { Err(Refusal::BufferTooShort) });
@@ -136,7 +137,7 @@ fn buffers_of_every_length() {
 fn files_of_noise() {
     let mut random = Random::new(8);
     for _ in 0..20_000 {
-        let length = random.below(1400);
+        let length = random.below(1700);
         let file: Vec<u8> = (0..length).map(|_| random.next() as u8).collect();
         let error = Plan::open(&file).err();
         assert!(!matches!(error, Some(FileError::Unknown { .. })));

@@ -9,32 +9,39 @@ use std::fmt::Write;
 const RESORT_A: [u8; 17] = [4, 5, 0, 1, 5, 1, 2, 3, 2, 3, 4, 0, 3, 2, 0, 2, 1];
 
 /// Links that are none, and capacities that none may have.
-const NO_CHANGES: [(usize, u32); 4] = [(5, 1), (usize::MAX, 1_000_001), (4, 1_000_001), (0, u32::MAX)];
+const NO_CHANGES: [(usize, u32); 4] = [(5, 1), (usize::MAX, 8_000_001), (4, 8_000_001), (0, u32::MAX)];
 
 /// Ends that are no two nodes.
 const NO_PAIRS: [(usize, usize); 7] = [(0, 4), (4, 0), (4, 4), (usize::MAX, 1), (1, usize::MAX), (2, 2), (0, 0)];
 
 /// Files that are refused, and their neighbours that are not.
-const FILES: [&[u8]; 33] = [
+const FILES: [&[u8]; 45] = [
     b"",
     b"\x80",
     b"\x80\x80",
+    b"\x80\x80\x80",
     b"\x04",
     b"\x04\x05\x00\x01",
     b"\x02\x80\x02",
-    b"\x80\x80\x80",
-    b"\x80\x80\x80\x00",
     b"\x02\x80\x80\x80",
     b"\x02\x01\x00\x01\xff\xff\xff",
+    b"\x80\x80\x80\x80",
+    b"\x80\x80\x80\x80\x00",
+    b"\x02\x80\x80\x80\x80",
+    b"\x02\x01\x00\x01\xff\xff\xff\xff",
     b"\x80\x00",
     b"\x80\x80\x00",
+    b"\x80\x80\x80\x00",
+    b"\x02\x01\x00\x01\xff\xff\xff\x00",
     b"\x02\x01\x00\x01\x80\x00",
     b"\x02\x01\x80\x00",
     b"\x00",
     b"\x41",
     b"\x80\x01",
+    b"\x80\x80\x80\x01",
     b"\x40\x00",
     b"\x02\x81\x02",
+    b"\x02\x81\x80\x80\x01",
     b"\x01\x00",
     b"\x02\x01\x02",
     b"\x02\x01\x00\x02",
@@ -45,6 +52,11 @@ const FILES: [&[u8]; 33] = [
     b"\x02\x01\x00\x01\xc0\x84\x3d",
     b"\x02\x01\x00\x01\xc1\x84\x3d",
     b"\x02\x01\x01\x00\xff\xff\x7f",
+    b"\x02\x01\x00\x01\x80\x80\x80\x01",
+    b"\x02\x01\x00\x01\x80\xa4\xe8\x02",
+    b"\x02\x01\x00\x01\x80\xa4\xe8\x03",
+    b"\x02\x01\x00\x01\x81\xa4\xe8\x03",
+    b"\x02\x01\x01\x00\xff\xff\xff\x7f",
     b"\x02\x01\x01\x00\x00",
     b"\x01\x00\x00",
     b"\x02\x00\x80\x80",
@@ -188,7 +200,7 @@ fn asked(lines: &mut Lines) {
 }
 
 fn changed(lines: &mut Lines) {
-    for (k, c) in [(1, 1), (3, 4), (0, 5), (2, 0), (4, 1_000_000)] {
+    for (k, c) in [(1, 1), (3, 4), (0, 5), (2, 0), (4, 8_000_000)] {
         let mut plan = resort_a();
         lines.say(format!("change link {k} to {c}: {} not kept", plan.change(k, c).unwrap()));
         lines.plan(&plan);
@@ -244,8 +256,8 @@ fn read(lines: &mut Lines) {
     for pair in NO_PAIRS {
         lines.readings(&mut list, &plan, pair, &[1_000_000_001]);
     }
-    plan.change(4, 1_000_000).unwrap();
-    lines.readings(&mut list, &plan, (0, 2), &[999_997, 999_906, 999_905, 999_006, 999_005, 0, u32::MAX]);
+    plan.change(4, 8_000_000).unwrap();
+    lines.readings(&mut list, &plan, (0, 2), &[7_999_997, 7_999_906, 7_999_905, 7_999_006, 7_999_005, 0, u32::MAX]);
     lines.readings(&mut list, &plan, (0, 1), &[4]);
 }
 
@@ -287,23 +299,48 @@ fn stacked(lines: &mut Lines) {
 fn written(lines: &mut Lines) {
     let mut plan = resort_a();
     lines.say(format!("write into 17 bytes{}", hexadecimal(&plan.net.file())));
-    for (k, c) in [(1, 1_000_000), (3, 130), (3, 0)] {
+    for (k, c) in [(1, 8_000_000), (3, 130), (3, 0)] {
         plan.change(k, c).unwrap();
     }
     let file = plan.net.file();
-    lines.say(format!("write into 1283 bytes{}", hexadecimal(&file)));
+    lines.say(format!("write into 1539 bytes{}", hexadecimal(&file)));
     lines.say(format!("write into {} bytes{}", file.len(), hexadecimal(&file)));
     lines.plan(&Plan::open(&file).unwrap());
+}
+
+// the highest weight, of all 256 links between two nodes at the highest capacity, and the lowest, of no link
+fn at_the_ends(lines: &mut Lines) {
+    let changes = [(255, 0), (0, 7_999_999)];
+    for (links, changes) in [(vec![(0, 1, 8_000_000); 256], &changes[..]), (vec![], &[])] {
+        let mut plan = Plan::open(&Network { nodes: 2, links }.file()).unwrap();
+        lines.say(format!("two nodes and {} links", plan.net.links.len()));
+        lines.tree(&plan);
+        lines.pairs(&plan);
+        for demand in [0, 1, 999_999_999, 1_000_000_000] {
+            let value = plan.headroom(1, 0, demand).unwrap();
+            lines.say(format!("headroom 1 0, demand {demand}: [{}] {value}", model::text(value)));
+        }
+        let mut list = List::of(vec![Told::Reset]);
+        lines.window("reset:", list.numbers());
+        lines.readings(&mut list, &plan, (0, 1), &[0, 1_000_000_000, 1_000_000_001]);
+        for &(k, c) in changes {
+            lines.preview(&plan, (k, c), (1, 0));
+            lines.say(format!("change link {k} to {c}: {} not kept", plan.change(k, c).unwrap()));
+            lines.pairs(&plan);
+            lines.say(format!("undo: {} not kept", plan.undo().unwrap()));
+            lines.tree(&plan);
+        }
+    }
 }
 
 fn opened(lines: &mut Lines) {
     for file in FILES {
         lines.opening(hexadecimal(file), file);
     }
-    let links = (0..256).map(|k| (k % 63, 63, 1_000_000 - k as u32)).collect();
+    let links = (0..256).map(|k| (k % 63, 63, 8_000_000 - k as u32)).collect();
     let mut longest = Network { nodes: 64, links }.file();
     longest.push(0);
-    for length in 1282..=1284 {
+    for length in 1538..=1540 {
         lines.opening(format!(" {length} bytes of the longest file"), &longest[..length]);
     }
     for file in [&RESORT_A[..], &RESORT_A[..4]] {
@@ -315,7 +352,7 @@ fn opened(lines: &mut Lines) {
 #[test]
 fn life_of_resort_a() {
     let mut lines = Lines(String::new());
-    for part in [asked, changed, refused, read, read_any_record, stacked, written, opened] {
+    for part in [asked, changed, refused, read, read_any_record, stacked, written, at_the_ends, opened] {
         part(&mut lines);
     }
     lines.must_be(include_str!("../../tests/c/life.out"));

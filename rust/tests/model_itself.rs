@@ -1,10 +1,10 @@
-//! The model against the readings, its two ways to a least cut against each other, its pairs against a walk
-//! in the tree, its lightest edge against every side and every pair, its previews against sentences and table, its gate
-//! windows against values by hand and against each other, and the stored listings against the model.
+//! The model against the readings and against files by hand, its two ways to a least cut against each other, its pairs
+//! against a walk in the tree, its lightest edge against every side and every pair, its previews against sentences and
+//! table, its gate windows against values by hand and against each other, and the stored listings against the model.
 mod model;
 mod random;
 use model::window::{self, List, Told, shown};
-use model::{Plan, Tree};
+use model::{Fault, Network, Plan, Tree};
 use random::Random;
 use std::fs;
 use std::path::Path;
@@ -29,6 +29,79 @@ fn resort_a() {
     assert_eq!(other.tree.lightest(), (1, 8));
     assert_eq!(other.undo(), Ok(3));
     assert_eq!((&other.tree, other.tree.lightest()), (&plan.tree, (2, 6)));
+}
+
+/// Worked out by hand: of files with a number of the longest kind and its neighbours the capacity that is read, or
+/// number and place of the refusal; P9 among them.
+#[test]
+fn numbers_of_four_groups() {
+    let cases: [(&[u8], Result<u32, (u32, usize)>); 32] = [
+        // ended behind one, two and three bytes
+        (&[0x80], Err((1, 0))),
+        (&[0x80, 0x80], Err((1, 0))),
+        (&[0x80, 0x80, 0x80], Err((1, 0))),
+        (&[2, 0xff, 0xff, 0xff], Err((1, 1))),
+        (&[2, 1, 0, 1, 0x80, 0xa4, 0xe8], Err((1, 4))),
+        // a fourth byte with the top bit set
+        (&[0x80, 0x80, 0x80, 0x80], Err((2, 0))),
+        (&[0x80, 0x80, 0x80, 0x80, 0], Err((2, 0))),
+        (&[2, 0x81, 0x80, 0x80, 0x80, 1], Err((2, 1))),
+        (&[2, 1, 0xff, 0xff, 0xff, 0xff], Err((2, 2))),
+        (&[2, 1, 0, 0xff, 0xff, 0xff, 0xff], Err((2, 3))),
+        (&[2, 1, 0, 1, 0x80, 0xa4, 0xe8, 0x83, 0], Err((2, 4))),
+        // the last group of two, three and four is zero
+        (&[2, 1, 0, 1, 0x80, 0], Err((3, 4))),
+        (&[2, 1, 0, 1, 0xff, 0xff, 0], Err((3, 4))),
+        (&[2, 1, 0, 1, 0xff, 0xff, 0xff, 0], Err((3, 4))),
+        (&[0x82, 0x80, 0x80, 0], Err((3, 0))),
+        // n, m, a and b of four groups
+        (&[0x80, 0x80, 0x80, 1], Err((4, 0))),
+        (&[0x82, 0x80, 0x80, 8, 0], Err((4, 0))),
+        (&[2, 0x81, 0x80, 0x80, 1], Err((5, 1))),
+        (&[2, 1, 0x80, 0x80, 0x80, 8, 1, 5], Err((6, 2))),
+        (&[2, 1, 0, 0x81, 0x80, 0x80, 8, 5], Err((6, 3))),
+        // the highest and the lowest of two, three and four groups
+        (&[2, 1, 0, 1, 0xff, 0x7f], Ok(16_383)),
+        (&[2, 1, 0, 1, 0x80, 0x80, 1], Ok(16_384)),
+        (&[2, 1, 0, 1, 0xc1, 0x84, 0x3d], Ok(1_000_001)),
+        (&[2, 1, 0, 1, 0xff, 0xff, 0x7f], Ok(2_097_151)),
+        (&[2, 1, 0, 1, 0x80, 0x80, 0x80, 1], Ok(2_097_152)),
+        (&[2, 1, 0, 1, 0xff, 0xff, 0xff, 2], Ok(6_291_455)),
+        (&[2, 1, 0, 1, 0xff, 0xa3, 0xe8, 3], Ok(7_999_999)),
+        (&[2, 1, 0, 1, 0x80, 0xa4, 0xe8, 3], Ok(8_000_000)),
+        (&[2, 1, 0, 1, 0x81, 0xa4, 0xe8, 3], Err((8, 4))),
+        (&[2, 1, 0, 1, 0x80, 0x80, 0x80, 4], Err((8, 4))),
+        (&[2, 1, 0, 1, 0x85, 0x80, 0x80, 8], Err((8, 4))),
+        (&[2, 1, 0, 1, 0xff, 0xff, 0xff, 0x7f], Err((8, 4))),
+    ];
+    for (file, want) in cases {
+        let read = model::read(file);
+        let got = read.clone().map(|net| net.links[0].2).map_err(|Fault { number, place }| (number, place));
+        assert_eq!(got, want, "{file:02x?}");
+        assert!(read.is_err() || read.unwrap().file() == file, "{file:02x?}");
+    }
+}
+
+/// Worked out by hand: the longest file has 1,539 bytes, and the highest weight is 256 times the highest capacity; the
+/// highest headroom and the lowest, with their texts.
+#[test]
+fn highest_and_lowest() {
+    let capacity = [0x80, 0xa4, 0xe8, 3];
+    let file = [vec![2, 0x80, 2], [&[0, 1][..], &capacity].concat().repeat(256)].concat();
+    assert_eq!(file.len(), 1 + 2 + 256 * 6);
+    assert_eq!(file.len(), 1539);
+    let mut plan = Plan::open(&file).unwrap();
+    assert_eq!(plan.net.file(), file);
+    assert_eq!(plan.pair(0, 1), Ok((2_048_000_000, 1, 0b01, 1)));
+    assert_eq!(plan.net.least_by_trial(0, 1), plan.net.least_by_preflow(0, 1));
+    assert_eq!((plan.tree.steps[1], plan.tree.lightest()), ((0, 0b10, 2_048_000_000), (1, 2_048_000_000)));
+    assert_eq!((plan.headroom(0, 1, 0), plan.headroom(0, 1, 1_000_000_000)), (Ok(2_048_000_000), Ok(1_048_000_000)));
+    assert_eq!(model::text(2_048_000_000), " 204800000.0");
+    assert_eq!((plan.change(0, 8_000_001), plan.change(0, 8_000_000)), (Err(11), Ok(0)));
+    assert_eq!((plan.change(0, 7_999_999), plan.pair(1, 0)), (Ok(0), Ok((2_047_999_999, 1, 0b10, 1))));
+    let apart = Plan::open(&Network { nodes: 2, links: vec![] }.file()).unwrap();
+    assert_eq!(apart.headroom(0, 1, 1_000_000_000), Ok(-1_000_000_000));
+    assert_eq!(model::text(-1_000_000_000), "-100000000.0");
 }
 
 /// Worked out by hand: the weights of the tree, and its lightest edge.
@@ -180,10 +253,10 @@ fn refusals_of_previews() {
     let mut full = empty.clone();
     (0..64).for_each(|c| assert!(full.change(1, c).is_ok()));
     for plan in [empty, full] {
-        for (k, c) in [(4, 1_000_000), (5, 1_000_000), (4, 1_000_001), (5, 1_000_001)] {
+        for (k, c) in [(4, 8_000_000), (5, 8_000_000), (4, 8_000_001), (5, 8_000_001)] {
             for (s, t) in [(3, 0), (3, 3), (4, 0), (0, 4), (4, 4)] {
                 let rows =
-                    [(10, k > 4), (11, c > 1_000_000), (12, plan.stack.len() > 63), (14, s.max(t) > 3), (15, s == t)];
+                    [(10, k > 4), (11, c > 8_000_000), (12, plan.stack.len() > 63), (14, s.max(t) > 3), (15, s == t)];
                 let first = rows.into_iter().find(|row| row.1).map(|row| row.0);
                 assert_eq!(plan.preview(k, c, s, t).err(), first, "link {k} to {c}, pair {s} {t}");
             }
@@ -215,7 +288,7 @@ fn looks_of_windows() {
         (990, "99.0"),
         (999, "99.9"),
         (1000, "HIGH"),
-        (256_000_000, "HIGH"),
+        (2_048_000_000, "HIGH"),
     ];
     for (tenths, text) in cases {
         assert_eq!(shown(tenths), text, "{tenths} tenths");
@@ -304,7 +377,7 @@ fn lists_by_single_readings() {
     }
 }
 
-/// The stored listings of `tests/pairs` are the model's, of the 1,284 bytes that the program `pairs` reads at most.
+/// The stored listings of `tests/pairs` are the model's, of the 1,540 bytes that the program `pairs` reads at most.
 #[test]
 fn stored_listings() {
     let folder = Path::new(env!("CARGO_MANIFEST_DIR")).join("../tests/pairs");
@@ -314,7 +387,7 @@ fn stored_listings() {
         if path.extension().is_some_and(|kind| kind == "in") {
             let file = fs::read(&path).unwrap();
             let stored = fs::read_to_string(path.with_extension("out")).unwrap();
-            assert_eq!(stored, model::listing(&file[..file.len().min(1284)]), "{}", path.display());
+            assert_eq!(stored, model::listing(&file[..file.len().min(1540)]), "{}", path.display());
             listings += 1;
         }
     }

@@ -56,7 +56,7 @@ static inline void break_link(struct desk *desk, const struct pamzolit_plan *who
     BREAK(net->b[k] = 255);
     BREAK(net->a[k] = net->b[k]);
     BREAK(net->b[k] = net->a[k]);
-    BREAK(net->capacity[k] = 1000001);
+    BREAK(net->capacity[k] = 8000001);
     BREAK(net->capacity[k] = UINT32_MAX);
 }
 
@@ -67,7 +67,7 @@ static inline void break_no_link(struct desk *desk, const struct pamzolit_plan *
     BREAK(net->a[k] = 1);
     BREAK(net->b[k] = 1);
     BREAK(net->capacity[k] = 1);
-    BREAK((net->a[k] = 1, net->capacity[k] = 1000000));
+    BREAK((net->a[k] = 1, net->capacity[k] = 8000000));
 }
 
 static inline void break_node_0(struct desk *desk, const struct pamzolit_plan *whole)
@@ -133,7 +133,8 @@ static inline void break_node(struct desk *desk, const struct pamzolit_plan *who
     BREAK((p->tree.parent[0] = (uint8_t)i, p->tree.parent[i] = 0));
     if (parent != 0)
         BREAK(p->tree.parent[parent] = (uint8_t)i);
-    BREAK(p->tree.weight[i] = 256000001);
+    BREAK(p->tree.weight[i] = 2048000001);
+    BREAK(p->tree.weight[i] = INT32_MAX);
     BREAK(p->tree.weight[i] = UINT32_MAX);
     break_by_weight(desk, whole, i);
     BREAK(p->steps.pivot[i] = (uint8_t)n);
@@ -146,7 +147,8 @@ static inline void break_node(struct desk *desk, const struct pamzolit_plan *who
         BREAK(p->steps.side[i] |= (uint64_t)1 << n);
     if (n < PAMZOLIT_NODES)
         BREAK(p->steps.side[i] |= (uint64_t)1 << 63);
-    BREAK(p->steps.value[i] = 256000001);
+    BREAK(p->steps.value[i] = 2048000001);
+    BREAK(p->steps.value[i] = INT32_MAX);
     BREAK(p->steps.value[i] = UINT32_MAX);
 }
 
@@ -168,7 +170,7 @@ static inline void break_entry(struct desk *desk, const struct pamzolit_plan *wh
     struct pamzolit_stack *stack = &desk->plan.stack;
     BREAK(stack->link[i] = (uint16_t)whole->network.links);
     BREAK(stack->link[i] = 65535);
-    BREAK(stack->capacity[i] = 1000001);
+    BREAK(stack->capacity[i] = 8000001);
     BREAK(stack->capacity[i] = UINT32_MAX);
     BREAK((stack->depth = i, stack->capacity[i] = 1));
 }

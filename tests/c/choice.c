@@ -5,7 +5,7 @@
  *
  * The first opens, changes and undoes within the limits, and digests flows alone: no later limit, check or field of a
  * plan moves a digest, only another choice of a flow does. Nothing that is drawn depends on a reply, so a network is
- * walked alike whatever was replied before. */
+ * walked alike whatever was replied before. All capacities are at most 1,000,000, the highest before document 02, 6. */
 #include "files.h"
 #include "sink.h"
 
@@ -60,7 +60,7 @@ static void add_fault(struct question *q)
     case 3: q->s = q->t = once_in(2) ? SIZE_MAX : net.nodes; break;
     case 4: q->link = net.links + pick(3); break;
     case 5: q->link = SIZE_MAX - pick(2); break;
-    case 6: q->capacity = 1000001 + (once_in(2) ? 0 : pick(4000000000)); break;
+    case 6: q->capacity = 8000001 + (once_in(2) ? 0 : pick(4000000000)); break;
     case 7: q->demand = 1000000001 + (once_in(2) ? 0 : pick(3000000000)); break;
     case 8: q->places = once_in(4) ? 0 : net.links + 1; break;
     default: q->room = pick(2 + 3 * (uint32_t)net.links); /* the file has two bytes more, or still more */
@@ -225,6 +225,18 @@ static void read_too_often(void)
     reset_and_tell();
 }
 
+/* Whether no three bytes may be a number above 1,000,000, or stand at the start of a longer one: else the file is one
+ * that the highest capacity and the longest number decide about, and these were lower before document 02, 6. */
+static bool within_older_limits(const struct file *file)
+{
+    for (size_t i = 2; i < file->length; i++) {
+        uint32_t low = file->bytes[i - 2], middle = file->bytes[i - 1], high = file->bytes[i];
+        if (low > 127 && middle > 127 && low % 128 + middle % 128 * 128 + high * 16384 > 1000000)
+            return false;
+    }
+    return true;
+}
+
 /* cut short, with a byte more, or with another byte, often near its start: at times it is in order all the same */
 static void open_damaged(struct file file)
 {
@@ -236,6 +248,8 @@ static void open_damaged(struct file file)
     case 2: file.bytes[pick(length)] = (uint8_t)byte; break;
     default: file.bytes[pick(length < 4 ? 2 : 4)] = (uint8_t)byte;
     }
+    if (!within_older_limits(&file))
+        return;
     open_and_tell(&file);
     ask_every_call(&q);
 }
@@ -243,7 +257,7 @@ static void open_damaged(struct file file)
 /* a field of the plan gets another number, which may be in order, and every call is made on that */
 static void ask_damaged(void)
 {
-    static const uint64_t numbers[] = {0, 1, 2, 3, 63, 64, 255, 256, 257, 1000000, 1000001, UINT32_MAX, SIZE_MAX};
+    static const uint64_t numbers[] = {0, 1, 2, 3, 63, 64, 255, 256, 257, 1000000, 8000001, UINT32_MAX, SIZE_MAX};
     const struct pamzolit_plan plan = desk.plan;
     const struct field *field = &fields[pick(FIELDS)];
     struct question q = any_question();

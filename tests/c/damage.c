@@ -49,7 +49,7 @@ static struct file row_file(void)
 
 static void make_plans(void)
 {
-    struct file twenty = random_file(20, 50, 1000), row = row_file(), full = random_file(64, 256, 1000000);
+    struct file twenty = random_file(20, 50, 1000), row = row_file(), full = random_file(64, 256, 8000000);
     open_plan(0, resort_a, sizeof resort_a);
     open_plan(1, resort_a, sizeof resort_a);
     open_plan(2, (const uint8_t[]){1, 0}, 2);
@@ -59,7 +59,7 @@ static void make_plans(void)
     open_plan(LARGEST, full.bytes, full.length);
     change_plan(1, 3, 9);
     change_plan(4, 10, 1000);
-    change_plan(LARGEST, 64, 1000000);
+    change_plan(LARGEST, 64, 8000000);
     MUST(climb_from(&plans[5].tree, 63).length == 64);
 }
 
@@ -92,7 +92,7 @@ static struct question random_question(const struct pamzolit_plan *plan)
     q.link = seldom() ? noise() : draw(m + 1);
     q.s = seldom() ? noise() : draw(n + 1);
     q.t = seldom() ? q.s : draw(n + 1);
-    q.capacity = seldom() ? (uint32_t)noise() : up_to(1000000);
+    q.capacity = seldom() ? (uint32_t)noise() : up_to(8000000);
     q.capacity += seldom();
     q.demand = random_demand(plan) + seldom();
     if (seldom())
@@ -177,11 +177,11 @@ static void keeps_the_shape(void)
     desk.plan = plans[0];
     desk.plan.network.capacity[0] = 0;
     MUST(called(HEADROOM, &desk, &q) == 0 && desk.headroom.value == 7);
-    desk.plan.tree.weight[1] = 256000000;
-    MUST(called(HEADROOM, &desk, &q) == 0 && desk.headroom.value == 255999999);
-    MUST(memcmp(desk.headroom.text, "  25599999.9", 12) == 0);
+    desk.plan.tree.weight[1] = 2048000000;
+    MUST(called(HEADROOM, &desk, &q) == 0 && desk.headroom.value == 2047999999);
+    MUST(memcmp(desk.headroom.text, " 204799999.9", 12) == 0);
     desk.window = (struct pamzolit_window){0, INT32_MIN, 0};
-    MUST(called(READING, &desk, &q) == 0 && desk.window.lowest == 255999999 && desk.window.count == 1);
+    MUST(called(READING, &desk, &q) == 0 && desk.window.lowest == 2047999999 && desk.window.count == 1);
     MUST(memcmp(desk.shown.text, "HIGH", 4) == 0);
     /* link 0 to the capacity that it has now: every step is kept, that of node 1 with its value of 8 */
     MUST(called(PREVIEW, &desk, &q) == 0 && desk.pair.weight == 8 && desk.count == 0);

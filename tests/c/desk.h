@@ -32,7 +32,7 @@ struct desk {
     uint8_t gap_10[64];
 };
 /* padding would not be safe to compare */
-_Static_assert(sizeof(struct desk) == 3104 + 4 + 32 + 20 + 12 + 8 + 1028 + 1284 + 8 + 8 + 692, "the desk has padding");
+_Static_assert(sizeof(struct desk) == 3104 + 4 + 32 + 20 + 12 + 8 + 1028 + 1540 + 8 + 8 + 692, "the desk has padding");
 
 enum call { CHANGE, UNDO, PAIR, PREVIEW, HEADROOM, READING, FLOW, WRITE, CALLS };
 

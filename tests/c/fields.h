@@ -41,7 +41,7 @@ static inline void set_field(struct pamzolit_plan *plan, const struct field *fie
 static inline uint64_t telling_number(const struct pamzolit_plan *plan)
 {
     const uint64_t numbers[] = {
-        0, 1, 2, 62, 63, 64, 65, 127, 128, 255, 256, 257, 65535, 65536, 1000000, 1000001, 256000000, 256000001,
+        0, 1, 2, 62, 63, 64, 65, 127, 128, 255, 256, 257, 65535, 65536, 8000000, 8000001, 2048000000, 2048000001,
         INT32_MAX, (uint64_t)INT32_MAX + 1, UINT32_MAX, (uint64_t)UINT32_MAX + 1, (uint64_t)1 << 63, SIZE_MAX,
         plan->network.nodes - 1, plan->network.nodes, plan->network.nodes + 1,
         plan->network.links - 1, plan->network.links, plan->network.links + 1,

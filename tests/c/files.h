@@ -64,7 +64,7 @@ static inline struct file longest_file(void)
     put_number(&file, PAMZOLIT_NODES);
     put_number(&file, PAMZOLIT_LINKS);
     for (uint32_t k = 0; k < PAMZOLIT_LINKS; k++)
-        put_link(&file, k % 63, 63, 1000000 - k);
+        put_link(&file, k % 63, 63, 8000000 - k);
     MUST(file.length == PAMZOLIT_FILE_MAX);
     return file;
 }

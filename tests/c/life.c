@@ -22,11 +22,10 @@ static void open_resort_a(void)
 
 /* ---- asking */
 
-static void ask_headrooms(void)
+static void ask_headrooms(size_t s, size_t t, const uint32_t *demands, size_t count)
 {
-    static const uint32_t demands[] = {0, 5, 6, 7, 11, 16, 106, 1000000000};
-    for (size_t i = 0; i < sizeof demands / sizeof demands[0]; i++) {
-        struct question q = {.s = 1, .t = 3, .demand = demands[i]};
+    for (size_t i = 0; i < count; i++) {
+        struct question q = {.s = s, .t = t, .demand = demands[i]};
         MUST(called(HEADROOM, &desk, &q) == 0);
         show_question(HEADROOM, &q);
         printf(": [%.12s] %d\n", (const char *)desk.headroom.text, (int)desk.headroom.value);
@@ -113,8 +112,8 @@ static void refuse(enum call call, struct question q)
 static void refuse_changes(enum call call, size_t s, size_t t)
 {
     refuse(call, (struct question){.link = 5, .capacity = 1, .s = s, .t = t});
-    refuse(call, (struct question){.link = SIZE_MAX, .capacity = 1000001, .s = s, .t = t});
-    refuse(call, (struct question){.link = 4, .capacity = 1000001, .s = s, .t = t});
+    refuse(call, (struct question){.link = SIZE_MAX, .capacity = 8000001, .s = s, .t = t});
+    refuse(call, (struct question){.link = 4, .capacity = 8000001, .s = s, .t = t});
     refuse(call, (struct question){.link = 0, .capacity = UINT32_MAX, .s = s, .t = t});
 }
 
@@ -183,7 +182,7 @@ static void read_windows(size_t s, size_t t, const uint32_t *demands, size_t cou
 static void read_through_changes(void)
 {
     static const uint32_t some[] = {0, 11, 6, 7, 5}, falling[] = {105, 106, 107, 1000000000, 0};
-    static const uint32_t rising[] = {999997, 999906, 999905, 999006, 999005, 0, UINT32_MAX};
+    static const uint32_t rising[] = {7999997, 7999906, 7999905, 7999006, 7999005, 0, UINT32_MAX};
     desk.plan = first;
     reset();
     reset();
@@ -195,7 +194,7 @@ static void read_through_changes(void)
     read_windows(1, 3, falling, 5);
     reset();
     refuse_pairs(READING);
-    change(4, 1000000);
+    change(4, 8000000);
     read_windows(0, 2, rising, 7);
     read_window(0, 1, 4);
     undo();
@@ -282,7 +281,7 @@ static void write_and_open(void)
     desk.plan = first;
     write_file(sizeof resort_a);
     MUST(desk.used == sizeof resort_a && memcmp(desk.file, resort_a, desk.used) == 0);
-    change(1, 1000000);
+    change(1, 8000000);
     change(3, 130);
     change(3, 0);
     write_file(PAMZOLIT_FILE_MAX);
@@ -308,6 +307,53 @@ static void copy_and_change(void)
     MUST(same_plan(&desk.plan, &first) && same_plan(&copy, &first));
 }
 
+/* ---- the ends of weights and headrooms */
+
+/* two nodes with links of the highest capacity between them */
+static struct file two_nodes(uint32_t links)
+{
+    struct file file = {0};
+    put_number(&file, 2);
+    put_number(&file, links);
+    for (; links > 0; links--)
+        put_link(&file, 0, 1, 8000000);
+    return file;
+}
+
+static void preview_and_change(size_t link, uint32_t capacity)
+{
+    struct pamzolit_plan plan = desk.plan;
+    preview(link, capacity, 1, 0);
+    printf("change link %zu to %u: %u not kept\n", link, (unsigned)capacity, (unsigned)change(link, capacity));
+    ask_pairs();
+    printf("undo: %u not kept\n", (unsigned)undo());
+    show_tree(&desk.plan);
+    MUST(same_plan(&desk.plan, &plan));
+}
+
+static void ask_two_nodes(uint32_t links)
+{
+    static const uint32_t demands[] = {0, 1, 999999999, 1000000000}, booked[] = {0, 1000000000, 1000000001};
+    struct file file = two_nodes(links);
+    MUST(opened(&desk, file.bytes, file.length) == 0);
+    printf("two nodes and %u links\n", (unsigned)links);
+    show_tree(&desk.plan);
+    ask_pairs();
+    ask_headrooms(1, 0, demands, 4);
+    reset();
+    read_windows(0, 1, booked, 3);
+}
+
+/* the highest weight, of all links between the same two nodes, and the lowest, of no link */
+static void ask_at_the_ends(void)
+{
+    ask_two_nodes(PAMZOLIT_LINKS);
+    MUST(desk.plan.lightest.weight == 2048000000);
+    preview_and_change(255, 0);
+    preview_and_change(0, 7999999);
+    ask_two_nodes(0);
+}
+
 /* ---- the listing */
 
 static void list(const uint8_t *file, size_t length)
@@ -324,9 +370,10 @@ static void list(const uint8_t *file, size_t length)
 
 int main(void)
 {
+    static const uint32_t demands[] = {0, 5, 6, 7, 11, 16, 106, 1000000000};
     open_resort_a();
     show_plan(&desk.plan);
-    ask_headrooms();
+    ask_headrooms(1, 3, demands, 8);
     ask_pairs();
     preview_pairs(1, 1);
     preview_pairs(3, 4);
@@ -334,7 +381,7 @@ int main(void)
     change_and_undo(3, 4);
     change_and_undo(0, 5);
     change_and_undo(2, 0);
-    change_and_undo(4, 1000000);
+    change_and_undo(4, 8000000);
     refuse_calls();
     read_through_changes();
     read_any_record();
@@ -343,6 +390,7 @@ int main(void)
     empty_the_stack();
     write_and_open();
     copy_and_change();
+    ask_at_the_ends();
     try_openings(&desk);
     list(resort_a, sizeof resort_a);
     list(resort_a, 4);

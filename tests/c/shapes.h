@@ -24,7 +24,7 @@ static inline void shape_network(struct pamzolit_network *net)
     for (size_t k = 0; k < net->links; k++) {
         net->a[k] = (uint8_t)draw(n);
         net->b[k] = (uint8_t)((net->a[k] + 1 + draw(n - 1)) % n);
-        net->capacity[k] = up_to(1000000);
+        net->capacity[k] = up_to(8000000);
     }
 }
 
@@ -40,7 +40,7 @@ static inline void shape_tree(struct pamzolit_tree *tree, uint32_t nodes)
     }
     for (uint32_t i = 1; i < nodes; i++) {
         tree->parent[order[i]] = order[kind == 0 ? i - 1 : kind == 1 ? 0 : draw(i)];
-        tree->weight[order[i]] = up_to(256000000);
+        tree->weight[order[i]] = up_to(2048000000);
     }
 }
 
@@ -51,7 +51,7 @@ static inline void shape_steps(struct pamzolit_steps *steps, uint32_t nodes)
         uint64_t side = noise() >> (64 - nodes);
         steps->pivot[s] = (uint8_t)pivot;
         steps->side[s] = (side | (uint64_t)1 << s) & ~((uint64_t)1 << pivot);
-        steps->value[s] = up_to(256000000);
+        steps->value[s] = up_to(2048000000);
     }
 }
 
@@ -60,7 +60,7 @@ static inline void shape_stack(struct pamzolit_stack *stack, uint32_t links)
     stack->depth = links == 0 ? 0 : up_to(PAMZOLIT_CHANGES);
     for (size_t i = 0; i < stack->depth; i++) {
         stack->link[i] = (uint16_t)draw(links);
-        stack->capacity[i] = up_to(1000000);
+        stack->capacity[i] = up_to(8000000);
     }
 }
 

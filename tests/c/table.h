@@ -10,7 +10,7 @@ static inline uint32_t change_number(const struct pamzolit_plan *plan, const str
 {
     if (q->link >= plan->network.links)
         return 10;
-    if (q->capacity > 1000000)
+    if (q->capacity > 8000000)
         return 11;
     return plan->stack.depth == 64 ? 12 : 0;
 }

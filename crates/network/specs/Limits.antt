@@ -16,11 +16,11 @@ max_arcs = 2 * max_links
 
 -- a capacity, in tenths of a megabit per second
 abbrev pub max_capacity : ℕ
-max_capacity = 1000000
+max_capacity = 8000000
 
 -- groups of seven bits in a number of the file
 abbrev pub max_groups : ℕ
-max_groups = 3
+max_groups = 4
 
 -- a cut value: every link at its highest capacity
 abbrev pub max_value : ℕ

@@ -31,11 +31,11 @@ pub const MAX_LINKS: usize = 256;
 // arcs: each link there and back
 pub const MAX_ARCS: usize = 2 * MAX_LINKS;
 // a capacity, in tenths of a megabit per second
-pub const MAX_CAPACITY: u32 = 1_000_000;
+pub const MAX_CAPACITY: u32 = 8_000_000;
 // a cut value: every link at its highest capacity
 pub const MAX_VALUE: u32 = MAX_LINKS as u32 * MAX_CAPACITY;
 // groups of seven bits in a number of the file
-pub const MAX_GROUPS: usize = 3;
+pub const MAX_GROUPS: usize = 4;
 
 // A network: nodes 0 to nodes - 1, and links of which link k joins a[k] and b[k] and has capacity[k]. Unused places are
 // 0.

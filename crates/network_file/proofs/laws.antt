@@ -6,6 +6,8 @@ pub mod Filling
 pub mod Told
 pub mod RoundTrip
 pub mod FileLaws
+pub mod WiderLaws
+pub mod LowLaws
 pub mod FaultLaws
 pub mod FrontLaws
 pub mod NumberSteps

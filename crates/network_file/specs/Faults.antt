@@ -18,12 +18,12 @@ pub record Topped (k : ℕ) (t : List ℕ) : Type 0 where
   pub there : k ≤ length t
   pub top : (i : ℕ) → i < k → 128 ≤ at t i
 
--- 1: the file ends before the number's last byte, with fewer than three of its bytes there
+-- 1: the file ends before the number's last byte, with fewer than four of its bytes there
 pub record EndsEarly (most : ℕ) (t : List ℕ) : Type 0 where
   pub few : length t < most
   pub unended : Topped (length t) t
 
--- 2: its third byte has the top bit set
+-- 2: its fourth byte has the top bit set
 abbrev pub TooLong : ℕ → List ℕ → Type 0
 TooLong most t = Topped most t
 

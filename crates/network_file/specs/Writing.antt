@@ -34,7 +34,7 @@ file_of net = file_in max_groups net
 abbrev pub max_link : ℕ
 max_link = 2 * bytes_of (max_nodes - 1) + bytes_of max_capacity
 
--- "The longest file has 1,283 bytes", and a network that has it
+-- "The longest file has 1,539 bytes", and a network that has it
 abbrev pub max_file : ℕ
 max_file = bytes_of max_nodes + bytes_of max_links + max_links * max_link
 

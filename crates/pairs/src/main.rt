@@ -1,5 +1,5 @@
 // The program `pairs` (docs/SCOPE.md, 6): it takes a network file on standard input and prints its cut tree and every
-// pair, or why it is refused. What is printed is `listing`'s contract; that 1,284 bytes of a longer input are listed as
+// pair, or why it is refused. What is printed is `listing`'s contract; that 1,540 bytes of a longer input are listed as
 // the whole is `listing_front` there.
 #![tactic(auto)]
 

@@ -17,6 +17,10 @@ pub enum Command {
     Longest {
         length: usize,
     },
+    // `joined LENGTH`
+    Joined {
+        length: usize,
+    },
     // `many LOW HIGH LENGTH`
     Many {
         low: u8,
@@ -198,6 +202,9 @@ impl Command {
                 file: words.bytes(alloc)?,
             },
             Some(b'l') => Command::Longest {
+                length: words.size(),
+            },
+            Some(b'j') => Command::Joined {
                 length: words.size(),
             },
             Some(b'm') => Command::Many {

@@ -6,8 +6,8 @@ use std::io;
 // The bytes before the links of a file: n, and m in two bytes.
 const HEAD: usize = 3;
 
-// The bytes of a link of the longest file: its ends, and a capacity in three bytes.
-const LONG_LINK: usize = 5;
+// The bytes of a link of the longest file: its ends, and a capacity in four bytes.
+const LONG_LINK: usize = 6;
 
 // The bytes of a link of a capacity below 128: its ends and the capacity.
 const SHORT_LINK: usize = 3;
@@ -34,16 +34,26 @@ fn front(file: &[u8], length: usize) -> &[u8] {
 }
 
 // The longest file, of 64 nodes and 256 links, with one byte more, 0. Link k is to the next node, of a capacity up to
-// 1,000,000, in three bytes.
-// Kept: one function for this file and the one of many links would be lent the head, both lengths and a closure for the
-// link, with clauses that the head fits and that a link has a byte: it would be longer than the two.
+// 8,000,000, in four bytes.
+// Kept: one function for this file and the two below would be lent the head, both lengths and a closure for the link,
+// with clauses that the head fits and that a link has a byte: it would be longer than the three.
 fn longest_file() -> [u8; LONGEST] {
     let mut file = [0; LONGEST];
     file[..HEAD].copy_from_slice(&[0x40, 0x80, 0x02]);
     for (k, link) in file[HEAD..].chunks_exact_mut(LONG_LINK).enumerate() {
         let a = (k % MAX_NODES) as u8;
         let b = ((k + 1) % MAX_NODES) as u8;
-        link.copy_from_slice(&[a, b, (128 + k % 65) as u8, 0x84, 0x3d]);
+        link.copy_from_slice(&[a, b, 0x80, (128 + k % 37) as u8, 0xe8, 0x03]);
+    }
+    file
+}
+
+// Two nodes with 256 links of 8,000,000 between them, and one byte more, 0.
+fn joined_nodes() -> [u8; LONGEST] {
+    let mut file = [0; LONGEST];
+    file[..HEAD].copy_from_slice(&[0x02, 0x80, 0x02]);
+    for link in file[HEAD..].chunks_exact_mut(LONG_LINK) {
+        link.copy_from_slice(&[0, 1, 0x80, 0xa4, 0xe8, 0x03]);
     }
     file
 }
@@ -76,6 +86,11 @@ impl<R: Print> Run<'_, R> {
     // `longest LENGTH`: the longest file with one byte more, its first LENGTH bytes.
     pub fn open_longest(&mut self, length: usize) -> io::Result<()> {
         self.open(front(&longest_file(), length))
+    }
+
+    // `joined LENGTH`: the file of the highest weight with one byte more, its first LENGTH bytes.
+    pub fn open_joined(&mut self, length: usize) -> io::Result<()> {
+        self.open(front(&joined_nodes(), length))
     }
 
     // `many LOW HIGH LENGTH`: a file of 257 links with m in the bytes LOW and HIGH, its first LENGTH bytes.

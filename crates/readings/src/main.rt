@@ -8,7 +8,7 @@ mod answers; // commands that ask the plan: pair, view (a preview), headroom
 mod bend; // the command that sets one number of the plan by hand
 mod changes; // commands that change the plan: change, undo, repeat, drain
 mod commands; // the commands, and how they stand in a line
-mod files; // commands that open a file: open, longest, many
+mod files; // commands that open a file: open, longest, joined, many
 mod flows; // the command flow
 mod gate; // the command gate, a reading of a gate's record
 mod print; // what several commands print
@@ -36,6 +36,7 @@ impl<R: Print + AllocGlobal> Run<'_, R> {
         match command {
             Command::Open { file } => self.open(&file),
             Command::Longest { length } => self.open_longest(length),
+            Command::Joined { length } => self.open_joined(length),
             Command::Many { low, high, length } => self.open_many(low, high, length),
             Command::Again => self.open_again(),
             Command::Change { link, capacity } => self.change(link, capacity),

@@ -3,7 +3,7 @@ use crate::Run;
 use std::io;
 
 // The bytes of a buffer for every file, and what each is before.
-const ROOM: usize = 1300;
+const ROOM: usize = 1560;
 
 const UNWRITTEN: u8 = 0xee;
 

@@ -75,6 +75,33 @@ pub fn cut(file: &[u8]) -> &[u8] {
     file.split_last().map_or(file, |(_, front)| front)
 }
 
+// The place of a file's last number.
+fn last_place(file: &[u8]) -> usize {
+    let ends = cut(file).iter().rposition(|byte| *byte < 128);
+    ends.map_or(0, |end| end.saturating_add(1))
+}
+
+// Whether the file is refused where its last number goes on, and where it goes on with a zero: one that has four groups
+// is then too long.
+pub fn lengthened_right(mut file: Vec<u8>) -> Result<bool, AllocError> {
+    let place = last_place(&file);
+    let too_long = file.len().saturating_sub(place) > 3;
+    let expected = |refusal| {
+        let refusal = if too_long {
+            Refusal::NumberTooLong
+        } else {
+            refusal
+        };
+        Err(Fault { refusal, place })
+    };
+    if let Some(last) = file.last_mut() {
+        *last |= 128;
+    }
+    let ended = plan::open(&file) == expected(Refusal::EndsEarly);
+    file.push(0)?;
+    Ok(ended && plan::open(&file) == expected(Refusal::ZeroGroup))
+}
+
 // Whether the file without its last byte, and with a byte more, are refused.
 pub fn damaged_right(mut file: Vec<u8>) -> Result<bool, AllocError> {
     let place = file.len();

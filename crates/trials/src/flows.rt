@@ -4,13 +4,16 @@ ghost use Rattle.max_flow.specs.LeastCut.{Endpoints};
 use crate::lawful::is_lawful;
 use crate::sides::Sides;
 use crate::trial::Trial;
-use network::ValidNetwork;
+use network::{MAX_LINKS, ValidNetwork};
 use std::alloc::{AllocError, Global};
 
 // Of how many nodes and links the networks are.
 const LAST_NODE: usize = 9;
 
 const LINKS: usize = 20;
+
+// Of how many nodes those are that have many links of the highest capacities.
+const LAST_OF_FEW: usize = 3;
 
 // Whether the cut for s and t is the one that a trial of every side finds, and the flow a lawful one of its value.
 // Kept: whoever allocates is lent the allocator; a struct of it and the network would be made for each call and taken
@@ -34,9 +37,9 @@ fn pair_right(
     )
 }
 
-// All pairs of a random network.
-pub fn try_network(trial: &mut Trial) -> Result<(), AllocError> {
-    let Some(net) = trial.network(LAST_NODE, LINKS)? else {
+// All pairs of a network, where there is one.
+fn try_pairs(trial: &mut Trial, drawn: Option<ValidNetwork>) -> Result<(), AllocError> {
+    let Some(net) = drawn else {
         return Ok(());
     };
     let alloc = trial.alloc;
@@ -45,4 +48,16 @@ pub fn try_network(trial: &mut Trial) -> Result<(), AllocError> {
         net.network.nodes,
         |s, t| pair_right(alloc, net, &sides, s, t),
     )
+}
+
+// A random network.
+pub fn try_network(trial: &mut Trial) -> Result<(), AllocError> {
+    let drawn = trial.network(LAST_NODE, LINKS)?;
+    try_pairs(trial, drawn)
+}
+
+// A network of the highest weights.
+pub fn try_high_network(trial: &mut Trial) -> Result<(), AllocError> {
+    let drawn = trial.high_network(LAST_OF_FEW, MAX_LINKS)?;
+    try_pairs(trial, drawn)
 }

@@ -34,5 +34,7 @@ fn main(rt: HostRuntime) -> io::Result<()> {
     print_refusals(&rt, "refusals of previews", &plans.preview_refusals)?;
     let windows = repeat(alloc, 4, 400, windows::try_network)?;
     windows.print(&rt, "window")?;
-    print_refusals(&rt, "refusals of readings", &windows.refusals)
+    print_refusals(&rt, "refusals of readings", &windows.refusals)?;
+    repeat(alloc, 5, 100, flows::try_high_network)?.print(&rt, "flow at the limits")?;
+    repeat(alloc, 6, 50, trees::try_high_network)?.print(&rt, "tree at the limits")
 }

@@ -3,7 +3,7 @@ ghost use Rattle.std.specs.Prelude.{◌≤◌};
 ghost use Rattle.network.specs.Limits.{max_links, max_nodes};
 
 use crate::calls::{Question, altered_right};
-use crate::files::{damaged_right, file_of, file_right};
+use crate::files::{damaged_right, file_of, file_right, lengthened_right};
 use crate::lightest::{least_right, lightest_right};
 use crate::machine::{Entry, Machine};
 use crate::previews::preview_right;
@@ -83,7 +83,7 @@ impl Call {
 fn some_demand(random: &mut Random) -> u32 {
     match random.draw(3) {
         0 => random.draw(20) as u32,
-        1 => random.draw(2_000_000) as u32,
+        1 => random.draw(20_000_000) as u32,
         2 => MAX_DEMAND,
         _ => MAX_DEMAND + 1,
     }
@@ -271,9 +271,10 @@ pub fn try_network(trial: &mut Trial) -> Result<(), AllocError> {
     let sides = Sides::if_fits(alloc, &network)?;
     let opened = plan.network == network && plan.stack.depth == 0;
     let least = lightest_right(&plan) && least_right(&plan, &sides);
+    let damaged = lengthened_right(file_of(alloc, &network)?)? && damaged_right(file)?;
     trial
         .tally
-        .count(Kind::Network, opened && least && damaged_right(file)?)?;
+        .count(Kind::Network, opened && least && damaged)?;
     let mut run = Run {
         trial: trial.apart(),
         plan,

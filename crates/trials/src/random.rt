@@ -55,14 +55,17 @@ impl Random {
         if b != a { b } else { (a + 1) % (last + 1) }
     }
 
-    // The highest capacity that is drawn: mostly so small that ties and zeros are common.
+    // The highest capacity that is drawn: mostly so small that ties and zeros are common; else of two, three or four
+    // groups in a file.
     fn highest(&mut self) -> usize
         ensures { result ≤ max_capacity }
     {
-        match self.draw(3) {
-            0 => 1,
-            1 => 3,
-            2 => 12,
+        match self.draw(7) {
+            0 | 1 => 1,
+            2 | 3 => 3,
+            4 => 12,
+            5 => 16_383,
+            6 => 2_097_151,
             _ => MAX_CAPACITY as usize,
         }
     }

@@ -8,7 +8,7 @@ use crate::sides::Sides;
 use crate::tally::{Kind, Tally};
 use crate::trial::Trial;
 use cut_tree::Steps;
-use network::{MAX_CAPACITY, ValidNetwork};
+use network::{MAX_CAPACITY, MAX_LINKS, ValidNetwork};
 use std::alloc::AllocError;
 
 // How often a network is changed, and of how many nodes and links the networks are.
@@ -17,6 +17,9 @@ const CHANGES: usize = 5;
 const LAST_NODE: usize = 8;
 
 const LINKS: usize = 16;
+
+// Of how many nodes those are that have many links of the highest capacities.
+const LAST_OF_FEW: usize = 3;
 
 // Counts all pairs of a judge's tree.
 fn try_pairs(tally: &mut Tally, judge: Judge) -> Result<(), AllocError>
@@ -84,9 +87,9 @@ impl Walk<'_> {
     }
 }
 
-// A random network, and its changes.
-pub fn try_network(trial: &mut Trial) -> Result<(), AllocError> {
-    let Some(network) = trial.network(LAST_NODE, LINKS)? else {
+// A network, where there is one, and its changes.
+fn try_changes(trial: &mut Trial, drawn: Option<ValidNetwork>) -> Result<(), AllocError> {
+    let Some(network) = drawn else {
         return Ok(());
     };
     let mut walk = Walk {
@@ -98,4 +101,16 @@ pub fn try_network(trial: &mut Trial) -> Result<(), AllocError> {
         walk.change_once()?;
     }
     Ok(())
+}
+
+// A random network.
+pub fn try_network(trial: &mut Trial) -> Result<(), AllocError> {
+    let drawn = trial.network(LAST_NODE, LINKS)?;
+    try_changes(trial, drawn)
+}
+
+// A network of the highest weights.
+pub fn try_high_network(trial: &mut Trial) -> Result<(), AllocError> {
+    let drawn = trial.high_network(LAST_OF_FEW, MAX_LINKS)?;
+    try_changes(trial, drawn)
 }

@@ -4,7 +4,7 @@ ghost use Rattle.network.specs.Limits.{max_links, max_nodes};
 
 use crate::random::Random;
 use crate::tally::{Kind, Tally};
-use network::ValidNetwork;
+use network::{MAX_CAPACITY, Network, ValidNetwork};
 use std::alloc::{AllocError, Global};
 
 #[derive(Drop)]
@@ -24,14 +24,35 @@ impl Trial<'_> {
         }
     }
 
-    // A random network of at most last + 1 nodes and at most `most` links. It is counted, as wrong where it is not
-    // within the limits.
+    // Counts a network, as wrong where it is not within the limits.
+    fn counted(&mut self, net: Network) -> Result<Option<ValidNetwork>, AllocError> {
+        let drawn = ValidNetwork::new(net);
+        self.tally.count(Kind::Network, drawn.is_some())?;
+        Ok(drawn)
+    }
+
+    // A random network of at most last + 1 nodes and at most `most` links.
     pub fn network(&mut self, last: usize, most: usize) -> Result<Option<ValidNetwork>, AllocError>
         requires { (last < max_nodes) × (most ≤ max_links) }
     {
-        let drawn = ValidNetwork::new(self.random.network(last, most));
-        self.tally.count(Kind::Network, drawn.is_some())?;
-        Ok(drawn)
+        let net = self.random.network(last, most);
+        self.counted(net)
+    }
+
+    // The same, where every capacity is the highest or little less.
+    pub fn high_network(
+        &mut self,
+        last: usize,
+        most: usize,
+    ) -> Result<Option<ValidNetwork>, AllocError>
+        requires { (last < max_nodes) × (most ≤ max_links) }
+    {
+        let mut net = self.random.network(last, most);
+        let links = net.links;
+        for capacity in net.capacity.iter_mut().take(links) {
+            *capacity = MAX_CAPACITY - *capacity % 4;
+        }
+        self.counted(net)
     }
 }
 

@@ -1,5 +1,5 @@
 //! Calls on a plan, drawn at random.
-use crate::model::Plan;
+use crate::model::{CAPACITY, Plan};
 use crate::random::Random;
 
 #[derive(Clone, Copy, Debug)]
@@ -29,7 +29,7 @@ pub fn index(random: &mut Random, count: usize) -> usize {
 /// A link's new capacity, most of the time one that it may have.
 fn capacity(random: &mut Random) -> u32 {
     match random.below(20) {
-        0 => 1_000_001 + random.below(9) as u32,
+        0 => CAPACITY + 1 + random.below(9) as u32,
         1 => u32::MAX - random.below(2) as u32,
         _ => random.capacity(),
     }
@@ -52,7 +52,7 @@ pub fn random_call(random: &mut Random, plan: &Plan, filling: bool) -> Call {
             t: index(random, n),
             demand: match random.below(4) {
                 0 => random.below(20) as u32,
-                1 => random.below(2_000_000) as u32,
+                1 => random.below(20_000_000) as u32,
                 2 => 1_000_000_000 + random.below(2) as u32,
                 _ => u32::MAX - random.below(2) as u32,
             },

@@ -11,7 +11,8 @@ use std::hint::black_box;
 /// Headrooms at which the window changes its look, and their neighbours.
 const TELLING: [i64; 17] = [-101, -100, -99, -98, -10, -9, -5, -1, 0, 1, 9, 10, 99, 100, 999, 1000, 1001];
 
-const ENDS: [i32; 11] = [i32::MIN, i32::MIN + 1, -101, -5, -1, 0, 1, 6, 1000, i32::MAX - 1, i32::MAX];
+const ENDS: [i32; 13] =
+    [i32::MIN, i32::MIN + 1, -1_000_000_000, -101, -5, -1, 0, 1, 6, 1000, 2_048_000_000, i32::MAX - 1, i32::MAX];
 
 const COUNTS: [u32; 13] =
     [0, 1, 2, 65_535, 999_997, 999_998, 999_999, 1_000_000, 1_000_001, (1 << 24) + 1, 1 << 31, u32::MAX - 1, u32::MAX];
@@ -59,7 +60,7 @@ fn random_demand(random: &mut Random, limit: i64) -> u32 {
     match random.below(20) {
         0 => 1_000_000_000 + random.below(2) as u32,
         1 => u32::MAX - random.below(2) as u32,
-        2 => random.below(2_000_000) as u32,
+        2 => random.below(20_000_000) as u32,
         3..=5 => random.below(20) as u32,
         _ => u32::try_from(limit - TELLING[random.below(TELLING.len())]).unwrap_or(0),
     }
@@ -269,12 +270,13 @@ fn a_million_readings() {
     assert_eq!((numbers(&window), list.numbers()), ((1, 1, 1), (1, 1, 1)));
 }
 
-/// Every headroom around those that can be shown, and the lowest and the highest of all.
+/// Every headroom around those that can be shown.
 #[test]
 fn every_look() {
-    let longest = [vec![2, 0x80, 2], [0, 1, 0xc0, 0x84, 0x3d].repeat(256)].concat();
-    let limit = 256_000_000;
-    let plan = pamzolit::Plan::open(&longest).unwrap();
+    // 124 links of 8,000,000 between two nodes: nearly as much as the highest demand
+    let parallel = [vec![2, 124], [0, 1, 0x80, 0xa4, 0xe8, 3].repeat(124)].concat();
+    let limit = 992_000_000;
+    let plan = pamzolit::Plan::open(&parallel).unwrap();
     let mut window = Window::new();
     let mut look = |demand| reply(window.reading(&plan, Node(0), Node(1), demand)).1;
     for headroom in -1200..1200 {
@@ -283,6 +285,33 @@ fn every_look() {
     assert_eq!([look(0), look(1_000_000_000)], ["HIGH", "LOW "]);
     let by_hand = ["LOW ", "-9.9", "-1.0", "-0.5", "-0.1", " 0.0", " 0.1", " 9.9", "10.0", "99.9", "HIGH"];
     assert_eq!([-100, -99, -10, -5, -1, 0, 1, 99, 100, 999, 1000].map(|z| look((limit - z) as u32)), by_hand);
+}
+
+/// By hand: the highest headroom of all, of 256 links of 8,000,000 between two nodes and no demand, and the lowest, of
+/// two nodes apart and the highest demand; each on records that hold the other.
+#[test]
+fn headrooms_at_their_ends() {
+    let longest = [vec![2, 0x80, 2], [0, 1, 0x80, 0xa4, 0xe8, 3].repeat(256)].concat();
+    let plans = [&longest[..], &[2, 0]].map(|file| pamzolit::Plan::open(file).unwrap());
+    let (high, low) = (2_048_000_000, -1_000_000_000);
+    let mut window = Window::new();
+    let mut read = |plan: usize, demand| {
+        let got = reply(window.reading(&plans[plan], Node(0), Node(1), demand));
+        (got.0, got.1, window.last(), window.lowest(), window.count())
+    };
+    assert_eq!(read(0, 0), (0, "HIGH".to_string(), high, high, 1));
+    assert_eq!(read(1, 1_000_000_000), (0, "LOW ".to_string(), low, low, 2));
+    assert_eq!(read(0, 0), (0, "HIGH".to_string(), high, low, 3));
+    assert_eq!(read(0, 1_000_000_000), (0, "HIGH".to_string(), 1_048_000_000, low, 4));
+    assert_eq!(read(1, 1_000_000_001), (17, "    ".to_string(), 1_048_000_000, low, 4));
+    let text = |plan: usize, demand| {
+        let headroom = plans[plan].headroom(Node(1), Node(0), demand).unwrap();
+        (headroom.tenths(), headroom.text().to_string())
+    };
+    assert_eq!(text(0, 0), (high, " 204800000.0".to_string()));
+    assert_eq!(text(1, 1_000_000_000), (low, "-100000000.0".to_string()));
+    let weights = [0, 1].map(|plan| plans[plan].pair(Node(0), Node(1)).unwrap().weight);
+    assert_eq!((weights, plans[0].lightest().unwrap().weight), ([2_048_000_000, 0], 2_048_000_000));
 }
 
 /// By hand: what resort A's gate between nodes 1 and 3 shows, with link 2 or without it, and its numbers.

@@ -7,6 +7,12 @@ pub mod window;
 
 pub const SMALL: usize = 9;
 
+/// The highest capacity, in tenths of a megabit per second.
+pub const CAPACITY: u32 = 8_000_000;
+
+/// The groups of a number of a file, at most.
+pub const GROUPS: usize = 4;
+
 #[derive(Clone, Debug, PartialEq, Eq)]
 pub struct Network {
     pub nodes: usize,
@@ -27,10 +33,10 @@ fn fault<T>(number: u32, place: usize) -> Result<T, Fault> {
 
 fn number(file: &[u8], at: &mut usize) -> Result<u32, Fault> {
     let start = *at;
-    let bytes: Vec<u8> = file[start..].iter().copied().take(3).collect();
+    let bytes: Vec<u8> = file[start..].iter().copied().take(GROUPS).collect();
     let last = bytes.iter().position(|b| b & 0x80 == 0);
     let Some(last) = last else {
-        return fault(if bytes.len() < 3 { 1 } else { 2 }, start);
+        return fault(if bytes.len() < GROUPS { 1 } else { 2 }, start);
     };
     if last > 0 && bytes[last] == 0 {
         return fault(3, start);
@@ -67,7 +73,7 @@ pub fn read(file: &[u8]) -> Result<Network, Fault> {
         }
         let place = at;
         let c = number(file, &mut at)?;
-        if c > 1_000_000 {
+        if c > CAPACITY {
             return fault(8, place);
         }
         links.push((a, b, c));
@@ -337,7 +343,7 @@ impl Plan {
         if k >= self.net.links.len() {
             return Err(10);
         }
-        if c > 1_000_000 {
+        if c > CAPACITY {
             return Err(11);
         }
         if self.stack.len() == 64 {

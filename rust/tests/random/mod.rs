@@ -1,6 +1,6 @@
 //! Seeded random numbers, networks and damaged files.
 #![allow(dead_code)] // each test uses its part
-use crate::model::Network;
+use crate::model::{CAPACITY, Network};
 
 pub struct Random(u64);
 
@@ -24,14 +24,16 @@ impl Random {
         self.below(100) < percent
     }
 
-    /// Small ones are common, so that ties, zeros and equal cuts are; the largest come too.
+    /// Small ones are common, so that ties, zeros and equal cuts are; of two, three and four groups there are as many,
+    /// and the largest of each come too.
     pub fn capacity(&mut self) -> u32 {
+        let top = [1 << 7, 1 << 14, 1 << 21, CAPACITY + 1][self.below(4)];
         match self.below(10) {
             0 => 0,
             1..=5 => self.below(6) as u32,
-            6 | 7 => self.below(300) as u32,
-            8 => self.below(1_000_001) as u32,
-            _ => 1_000_000 - self.below(3) as u32,
+            6 => self.below(300) as u32,
+            7 | 8 => self.below(top as usize) as u32,
+            _ => top - 1 - self.below(3) as u32,
         }
     }
 
@@ -74,7 +76,7 @@ impl Random {
         (0..length)
             .map(|_| match self.below(3) {
                 0 => self.below(5) as u8,
-                1 => [0x80, 0x81, 0xc0, 0x84, 0x3d, 0x40, 0x41, 0][self.below(8)],
+                1 => [0x80, 0x81, 0xa4, 0xe8, 0x03, 0x04, 0x40, 0x41, 0][self.below(9)],
                 _ => self.next() as u8,
             })
             .collect()

@@ -25,6 +25,11 @@ pub highest : (window_text (pos 999) ≡ 57 ∷ 57 ∷ 46 ∷ 57 ∷ []) × (win
 unfolding digits window_text
 highest = (refl, refl)
 
+-- the ends of what a headroom can be, -100,000,000.0 and 204,800,000.0
+pub ends : (window_text (negsuc 999999999) ≡ 76 ∷ 79 ∷ 87 ∷ 32 ∷ []) × (window_text (pos 2048000000) ≡ 72 ∷ 73 ∷ 71 ∷ 72 ∷ [])
+unfolding digits window_text
+ends = (refl, refl)
+
 -- what a reader finds in "-0.5", " 0.5" and "12.3"
 pub found : (tenths_in (45 ∷ 48 ∷ 46 ∷ 53 ∷ []) ≡ negsuc 4) × (tenths_in (32 ∷ 48 ∷ 46 ∷ 53 ∷ []) ≡ pos 5)
     × (tenths_in (49 ∷ 50 ∷ 46 ∷ 51 ∷ []) ≡ pos 123)

@@ -11,16 +11,21 @@ equal_pushes = refl
 
 -- refused calls, pairs and flows alter nothing
 pub others_leave : state network_a (begin network_a)
-    (undo ∷ change 5 1 ∷ change 0 1000001 ∷ ask (pair 0 1) ∷ ask (pair 4 1) ∷ ask (flow 0 1 5) ∷ ask (flow 0 1 4) ∷ [])
+    (undo ∷ change 5 1 ∷ change 0 8000001 ∷ ask (pair 0 1) ∷ ask (pair 4 1) ∷ ask (flow 0 1 5) ∷ ask (flow 0 1 4) ∷ [])
     ≡ begin network_a
 unfolding state next refusal
 others_leave = refl
 
 pub their_numbers : numbers network_a (begin network_a)
-    (undo ∷ change 5 1 ∷ change 0 1000001 ∷ ask (pair 0 1) ∷ ask (pair 4 1) ∷ ask (flow 2 2 5) ∷ ask (flow 0 1 4) ∷ [])
+    (undo ∷ change 5 1 ∷ change 0 8000001 ∷ ask (pair 0 1) ∷ ask (pair 4 1) ∷ ask (flow 2 2 5) ∷ ask (flow 0 1 4) ∷ [])
     ≡ 13 ∷ 10 ∷ 11 ∷ 0 ∷ 14 ∷ 15 ∷ 16 ∷ []
 unfolding numbers next refusal
 their_numbers = refl
+
+-- the highest capacity is taken, and one above it is refused
+pub highest_capacity : numbers network_a (begin network_a) (change 0 8000000 ∷ change 0 8000001 ∷ []) ≡ 0 ∷ 11 ∷ []
+unfolding numbers next refusal
+highest_capacity = refl
 
 -- previews alter nothing; the change's refusals come first, then the pair's
 pub previews_leave : state network_a (begin network_a)
@@ -29,7 +34,7 @@ unfolding state next refusal
 previews_leave = refl
 
 pub preview_numbers : numbers network_a (begin network_a)
-    (ask (preview 3 4 0 1) ∷ ask (preview 5 1000001 4 4) ∷ ask (preview 3 1000001 4 4) ∷ ask (preview 3 4 4 4)
+    (ask (preview 3 4 0 1) ∷ ask (preview 5 8000001 4 4) ∷ ask (preview 3 8000001 4 4) ∷ ask (preview 3 4 4 4)
     ∷ ask (preview 3 4 1 1) ∷ [])
     ≡ 0 ∷ 10 ∷ 11 ∷ 14 ∷ 15 ∷ []
 unfolding numbers next refusal

@@ -111,11 +111,13 @@ table =
     ∷ reads (negsuc 4) (45 ∷ 48 ∷ 46 ∷ 53 ∷ []) ∷ reads (negsuc 9) (45 ∷ 49 ∷ 46 ∷ 48 ∷ [])
     ∷ reads (pos 0) (48 ∷ 46 ∷ 48 ∷ [])  -- P7
     ∷ refused [] 1 0  -- P8
-    ∷ refused (0x80 ∷ 0x80 ∷ 0x80 ∷ []) 2 0  -- P9
+    ∷ refused (0x80 ∷ 0x80 ∷ 0x80 ∷ 0x80 ∷ []) 2 0  -- P9
+    ∷ weights (0x02 ∷ 0x01 ∷ 0x00 ∷ 0x01 ∷ 0xC1 ∷ 0x84 ∷ 0x3D ∷ []) [] (1000001 ∷ [])  -- C1 84 3D
     ∷ refused (0x02 ∷ 0x01 ∷ 0x00 ∷ 0x01 ∷ 0x80 ∷ 0x00 ∷ []) 3 4  -- P10
     ∷ refused (0x02 ∷ 0x01 ∷ 0x00 ∷ 0x00 ∷ 0x00 ∷ []) 7 3  -- P11
     ∷ refused (0x01 ∷ 0x00 ∷ 0x00 ∷ []) 9 2  -- P12
     -- not the paper's
+    ∷ refused (0x80 ∷ 0x80 ∷ 0x80 ∷ []) 1 0
     ∷ pair resort_a 1 3 6 2 3 2
     ∷ preview resort_a [] 1 1 1 3 4 2 3 2 1  -- of P3
     ∷ preview resort_a [] 3 4 1 3 8 1 2 1 2 ∷ preview resort_a [] 3 4 3 2 8 2 11 3 2  -- of P4

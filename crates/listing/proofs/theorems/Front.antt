@@ -1,4 +1,4 @@
--- "At most 1,284 bytes are read": the first 1,284 bytes of a file are listed as the whole file is, so the program need
+-- "At most 1,540 bytes are read": the first 1,540 bytes of a file are listed as the whole file is, so the program need
 -- not see more.
 use Rattle.std.specs.Prelude.{ℕ, ◌≡◌, List, take}
 use Rattle.network_file.specs.Writing.{max_read}

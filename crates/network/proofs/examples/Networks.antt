@@ -9,7 +9,7 @@ use Rattle.base.specs.Word.{holds}
 use Rattle.min_cut.specs.Lawful.{outflow, total}
 use Rattle.min_cut.specs.code.Arcs.{tail}
 use Rattle.base.specs.Basics.{all, every, blank}
-use Rattle.network.specs.Limits.{max_nodes, max_links, max_arcs, max_value}
+use Rattle.network.specs.Limits.{max_nodes, max_links, max_arcs, max_capacity, max_groups, max_value}
 use Rattle.network.specs.Network.{network_fits, no_network, with_capacity, graph, crosses_link, value_of, least_side}
 use Rattle.network.specs.Network.{min_cut_value, total_of}
 use Rattle.network.specs.code.Links.{link_of}
@@ -49,7 +49,7 @@ first_and_last = (refl, refl)
 
 -- n nodes, and m links that all join nodes 0 and 63 and have the highest capacity
 abbrev alike : (n m : ℕ) → Network
-alike n m = network n (replicate m 0) (replicate m 63) (replicate m 1000000)
+alike n m = network n (replicate m 0) (replicate m 63) (replicate m 8000000)
 
 -- one node and no link; two links between the same nodes, one of capacity 0; the largest number in every place
 smallest_and_largest : (network_fits (network 1 [] [] []) ≡ true)
@@ -66,8 +66,8 @@ counts_broken = (refl, refl, refl)
 link_broken : (network_fits (network 4 (0 ∷ 1 ∷ 4 ∷ []) (1 ∷ 2 ∷ 3 ∷ []) (5 ∷ 3 ∷ 4 ∷ [])) ≡ false)
     × (network_fits (network 4 (0 ∷ 1 ∷ 2 ∷ []) (1 ∷ 2 ∷ 4 ∷ []) (5 ∷ 3 ∷ 4 ∷ [])) ≡ false)
     × (network_fits (network 4 (0 ∷ 1 ∷ 3 ∷ []) (1 ∷ 2 ∷ 3 ∷ []) (5 ∷ 3 ∷ 4 ∷ [])) ≡ false)
-    × (network_fits (network 4 (0 ∷ 1 ∷ 2 ∷ []) (1 ∷ 2 ∷ 3 ∷ []) (5 ∷ 3 ∷ 1000001 ∷ [])) ≡ false)
-    × (network_fits (network 4 (0 ∷ 1 ∷ 2 ∷ []) (1 ∷ 2 ∷ 3 ∷ []) (5 ∷ 3 ∷ 1000000 ∷ [])) ≡ true)
+    × (network_fits (network 4 (0 ∷ 1 ∷ 2 ∷ []) (1 ∷ 2 ∷ 3 ∷ []) (5 ∷ 3 ∷ 8000001 ∷ [])) ≡ false)
+    × (network_fits (network 4 (0 ∷ 1 ∷ 2 ∷ []) (1 ∷ 2 ∷ 3 ∷ []) (5 ∷ 3 ∷ 8000000 ∷ [])) ≡ true)
 unfolding network_fits every all blank
 link_broken = (refl, refl, refl, refl, refl)
 
@@ -124,8 +124,11 @@ min_cut_values : (min_cut_value resort_a 1 0 ≡ 8) × (min_cut_value resort_a 2
 unfolding least_min_cut first cut_value sum holds
 min_cut_values = (refl, refl, refl, refl)
 
--- the limits that are computed
-computed : (max_arcs ≡ 512) × (max_value ≡ 256000000)
+-- 800 gigabits, in a number of four groups; and the limits that are computed
+widest : (max_capacity ≡ 8000000) × (max_groups ≡ 4)
+widest = (refl, refl)
+
+computed : (max_arcs ≡ 512) × (max_value ≡ 2048000000)
 computed = (refl, refl)
 
 -- the side {0} of a full network: no value is higher

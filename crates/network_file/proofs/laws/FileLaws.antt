@@ -1,12 +1,13 @@
 -- What reading and writing say of each other: what is accepted is within the limits and is written back; what is written is read back.
-use Rattle.std.specs.Prelude.{ℕ, ◌≡◌, refl, ◌≢◌, true, List}
+use Rattle.std.specs.Prelude.{ℕ, ◌≤◌, ◌<◌, ◌≡◌, refl, ◌≢◌, true, List}
 use Rattle.std.proofs.Common.{sym, ap, ◌∙◌, arith}
+use Rattle.base.specs.Basics.{at}
 use Rattle.network.specs.Network.{network_fits, WithinLimits, no_network}
 use Rattle.network.proofs.laws.NetworkLaws.{capacity_le}
 use Rattle.network.specs.declared.Network.{Network}
 use Rattle.network_file.specs.Number.{Bytes}
-use Rattle.network_file.specs.Reading.{present, read_file}
-use Rattle.network_file.specs.Writing.{file_of}
+use Rattle.network_file.specs.Reading.{FileLimits, present, read_within, read_file}
+use Rattle.network_file.specs.Writing.{file_in, file_of}
 use Rattle.network_file.proofs.laws.Told.{Told, is_refused, is_accepted, told}
 use Rattle.network_file.proofs.laws.RoundTrip.{Roomy, all_read}
 use Rattle.network_file.specs.Reading.{Progress}
@@ -52,12 +53,17 @@ unfolding read_file
 refused_network s e = no_network_lem (told s) e
 
 -- ---- a written file
+pub round_trip_within : (limits : FileLimits) → Roomy limits → (net : Network) → WithinLimits net
+    → ((k : ℕ) → k < net.links → at net.capacity k ≤ limits.capacity)
+    → read_within limits (file_in limits.groups net) ≡ record { number = 0; place = 0; network = net }
+round_trip_within limits roomy net w low = rw (all_read limits roomy net w low)
+
 present_roomy : Roomy present
 present_roomy = record { some = omega arith; nodes = omega arith; links = omega arith; capacity = omega arith }
 
 pub round_trip : (net : Network) → WithinLimits net → read_file (file_of net) ≡ record { number = 0; place = 0; network = net }
 unfolding read_file file_of
-round_trip net w = rw (all_read present present_roomy net w (capacity_le net w.fits))
+round_trip net w = round_trip_within present present_roomy net w (capacity_le net w.fits)
 
 -- so a network has one file, and two networks within the limits never share one
 pub file_of_injective : (net other : Network) → WithinLimits net → WithinLimits other → file_of net ≡ file_of other → net ≡ other

@@ -91,6 +91,10 @@ read_zero_last most t z = go z.before z.several z.few z.topped z.there z.zero_la
     go (suc k) s f e h l = read_zero most k t f e h l
 
 -- ---- what was written is read
+pub several_groups : (most v : ℕ) → 128 ≤ v → v < 128 ^ suc most → 0 < most
+several_groups zero v h l = absurd (omega arith)
+several_groups (suc most) v h l = omega arith
+
 pub read_groups_lem : (most v : ℕ) (rest : List ℕ) → 0 < most → v < 128 ^ most
     → read_groups most (group_bytes most v ++ rest) ≡ Value v (length (group_bytes most v))
 read_groups_lem zero v rest p l = absurd (omega arith)
@@ -104,17 +108,13 @@ read_groups_lem (suc most) v rest p l = go (ltb v 128) refl (read_groups_lem mos
     go false e ih =
         let h = ltb-false v 128 e in
         let back = group_bytes most (v / 128) in
-        let m : 0 < most = several_groups most h l in
+        let m : 0 < most = several_groups most v h l in
         let q : v / 128 < 128 ^ most = omega (arith, pow-suc 128 most) in
         let n : 128 + v % 128 - 128 + 128 * (v / 128) ≡ v = omega arith in
         let z : length back + 1 ≡ suc (length back) = omega arith in
         rw (more_groups most v h)
         (read_more most (128 + v % 128) (back ++ rest) (omega arith) ∙ ap (continued (128 + v % 128)) (ih m q)
         ∙ continued_value (128 + v % 128) (v / 128) (length back) (omega arith) ∙ ap₂ (λ (w size : ℕ). Value w size) n z)
-      where
-        several_groups : (k : ℕ) → 128 ≤ v → v < 128 ^ suc k → 0 < k
-        several_groups zero h w = absurd (omega arith)
-        several_groups (suc k) h w = omega arith
 
 pub size_pos : {t : List ℕ} {v size : ℕ} → Groups t v size → 0 < size
 size_pos (last l) = omega arith

@@ -14,6 +14,7 @@ use Rattle.network_file.specs.Number.{Number, Value, Refused, read_number, refus
 use Rattle.network_file.specs.Reading.{nodes_row, links_row, end_row, other_end_row, no_number, a_number, taken, taking, no_link, link_at}
 use Rattle.network_file.specs.Reading.{stopped, going, unread, after, read_links, ended, read_all}
 use Rattle.network_file.specs.Reading.{read_by, Taken, Link, Progress, Reading}
+use Rattle.network_file.specs.Faults.{Groups}
 use Rattle.network_file.specs.declared.Fault.{Fault}
 use Rattle.network_file.proofs.laws.NumberLaws.{Seen, sees_one, sees_two, sees_three, sees_value, seen, size_within, refused_value}
 
@@ -60,27 +61,37 @@ module _ (s : List ℕ) (place : ℕ) where
       omega (arith, length-drop place s)
 
 -- the ways of it: a stop at its place; or a value that passes its row
-data Ways (s : List ℕ) (place : ℕ) (row : ℕ → ℕ) : Taken → Type 0 where
-  stops : {e : ℕ} → Ways s place row (no_number (suc e) place)
-  goes : {v next : ℕ} → row v ≡ 0 → Ways s place row (a_number v next)
+data Ways (groups : ℕ) (s : List ℕ) (place : ℕ) (row : ℕ → ℕ) : Taken → Type 0 where
+  stops : {e : ℕ} → Ways groups s place row (no_number (suc e) place)
+  goes : {v size : ℕ} → Groups (drop place s) v size → size ≤ groups → row v ≡ 0 → Ways groups s place row (a_number v (place + size))
 
-module _ (s : List ℕ) (place : ℕ) (row : ℕ → ℕ) where
-  by_row : (v size e : ℕ) → row v ≡ e
-      → Ways s place row (accepted e (a_number v (place + size)) (λ e. no_number e place))
-  by_row v size zero q = goes {next = place + size} q
-  by_row v size (suc e) q = stops
+module _ (groups : ℕ) (s : List ℕ) (place : ℕ) (row : ℕ → ℕ) where
+  by_row : (v size e : ℕ) → Groups (drop place s) v size → size ≤ groups → row v ≡ e
+      → Ways groups s place row (accepted e (a_number v (place + size)) (λ e. no_number e place))
+  by_row v size zero g l q = goes g l q
+  by_row v size (suc e) g l q = stops
 
-  by_number : {r : Number} → Seen max_groups (drop place s) r
-      → Ways s place row (accepted (check (ltb 0 (refusal_in r)) (refusal_in r) (row (value_in r)))
+  by_number : {r : Number} → Seen groups (drop place s) r
+      → Ways groups s place row (accepted (check (ltb 0 (refusal_in r)) (refusal_in r) (row (value_in r)))
       (a_number (value_in r) (place + size_in r)) (λ e. no_number e place))
   by_number (sees_one h) = stops
   by_number (sees_two h) = stops
   by_number (sees_three h) = stops
-  by_number (sees_value {v} {size} g l) = by_row v size (row v) refl
+  by_number (sees_value {v} {size} g l) = by_row v size (row v) g l refl
 
-  ways : Ways s place row (taken max_groups s place row)
+  ways : Ways groups s place row (taken groups s place row)
   unfolding taken
-  ways = by_number (seen max_groups (drop place s))
+  ways = by_number (seen groups (drop place s))
+
+  -- so a fact holds of what is made by `taking`, if it holds where the number is refused, and where it passes
+  module _ {A : Type 0} (P : A → Type 0) (stop next : ℕ → ℕ → A) (refused : (e : ℕ) → P (stop (suc e) place))
+      (passed : (v size : ℕ) → Groups (drop place s) v size → size ≤ groups → row v ≡ 0 → P (next v (place + size))) where
+    by_ways : {t : Taken} → Ways groups s place row t → P (accepted t.number (next t.value t.next) (λ e. stop e place))
+    by_ways (stops {e}) = refused e
+    by_ways (goes {v} {size} g l z) = passed v size g l z
+
+    pub taking_has : P (taking groups s place row stop next)
+    taking_has = by_ways ways
 
 -- ---- of an equal file
 pub in_file : (place : ℕ) (row : ℕ → ℕ) {s s' : List ℕ} {t : Taken} → s' ≡ s → t ≡ taken max_groups s' place row
@@ -110,18 +121,18 @@ mapped (Err e) f place h fault =
 
 module _ (s : List ℕ) (place : ℕ) (row : ℕ → ℕ) where
   pub passes : (v next : ℕ) → a_number v next ≡ taken max_groups s place row → row v ≡ 0
-  passes v next h = subst (λ (t : Taken). t.number ≡ 0 → row t.value ≡ 0) (sym h) (go (ways s place row)) refl
+  passes v next h = subst (λ (t : Taken). t.number ≡ 0 → row t.value ≡ 0) (sym h) (go (ways max_groups s place row)) refl
     where
-      go : {t : Taken} → Ways s place row t → t.number ≡ 0 → row t.value ≡ 0
+      go : {t : Taken} → Ways max_groups s place row t → t.number ≡ 0 → row t.value ≡ 0
       go stops e = absurd (omega arith)
-      go (goes z) e = z
+      go (goes g l z) e = z
 
   stops_there : (t : Taken) → t ≡ taken max_groups s place row → t.number ≢ 0 → t.next ≡ place
-  stops_there t h = subst (λ (t : Taken). t.number ≢ 0 → t.next ≡ place) (sym h) (go (ways s place row))
+  stops_there t h = subst (λ (t : Taken). t.number ≢ 0 → t.next ≡ place) (sym h) (go (ways max_groups s place row))
     where
-      go : {t : Taken} → Ways s place row t → t.number ≢ 0 → t.next ≡ place
+      go : {t : Taken} → Ways max_groups s place row t → t.number ≢ 0 → t.next ≡ place
       go stops n = refl
-      go (goes z) n = absurd (n refl)
+      go (goes g l z) n = absurd (n refl)
 
   module _ {A : Type 0} (stop next : ℕ → ℕ → A) where
     on : Taken → A

@@ -1,11 +1,17 @@
 -- What holds of the definitions of specs/Files.antt.
-use Rattle.network_file.specs.Reading.{read_file}
+use Rattle.std.proofs.Common.{ap, subst, ◌∙◌, arith}
+use Rattle.network.specs.Network.{WithinLimits}
+use Rattle.network_file.specs.Reading.{Reading, present, read_within, read_file}
+use Rattle.network_file.specs.Writing.{file_of}
 use Rattle.network_file.proofs.laws.FileLaws.{accepts, written_back, accepted_place, refused_network, round_trip}
-use Rattle.network_file.proofs.laws.FileLaws.{file_of_injective, written_accepted}
+use Rattle.network_file.proofs.laws.FileLaws.{file_of_injective, written_accepted, round_trip_within}
 use Rattle.network_file.proofs.laws.FaultLaws.{fault_given, fault_only, fault_number}
 use Rattle.network_file.proofs.laws.FrontLaws.{read_front, accepted_length}
 use Rattle.network_file.proofs.laws.LengthLaws.{file_most, file_bytes, largest_within, largest_longest}
-use Rattle.network_file.specs.Files.{Front, OneFile, Refusals}
+use Rattle.network_file.specs.Files.{Front, OneFile, Refusals, AsBefore, earlier}
+use Rattle.network_file.proofs.laws.RoundTrip.{Roomy}
+use Rattle.network_file.proofs.laws.WiderLaws.{Wider, accepted_wider, same_file}
+use Rattle.network_file.proofs.laws.LowLaws.{accepted_low}
 
 pub one_file : OneFile
 one_file =
@@ -34,3 +40,26 @@ refusals =
 
 pub front : Front
 front = record { same = read_front; no_longer = accepted_length }
+
+wider : Wider earlier present
+wider = record { groups = omega arith; capacity = omega arith }
+
+roomy : Roomy earlier
+roomy = record { some = omega arith; nodes = omega arith; links = omega arith; capacity = omega arith }
+
+pub as_before : AsBefore
+unfolding read_file file_of
+as_before =
+    record {
+      read = accepted_wider earlier present wider;
+      within = λ s e.
+          let same = accepted_wider earlier present wider s e in
+          record {
+            within = subst (λ (r : Reading). WithinLimits r.network) same (accepts s (ap (λ (r : Reading). r.number) same ∙ e));
+            low = accepted_low earlier s e;
+          };
+      written = λ net e. same_file earlier present wider roomy net e.within e.low;
+      read_back = λ net e.
+          ap (read_within earlier) (same_file earlier present wider roomy net e.within e.low)
+          ∙ round_trip_within earlier roomy net e.within e.low;
+    }

@@ -112,11 +112,11 @@ sound_plans =
     plan_a
     ∷ apart 1 ∷ apart 64
     ∷ joined 256
-    ∷ with_capacities (set network_a.capacity 0 1000000)
-    ∷ with_weights (set tree_a.weight 1 256000000)
-    ∷ with_values (set steps_a.value 1 256000000)
+    ∷ with_capacities (set network_a.capacity 0 8000000)
+    ∷ with_weights (set tree_a.weight 1 2048000000)
+    ∷ with_values (set steps_a.value 1 2048000000)
     ∷ with_stack once
-    ∷ with_stack (push no_stack 4 1000000)
+    ∷ with_stack (push no_stack 4 8000000)
     ∷ with_stack (record { depth = 64; link = no_stack.link; capacity = no_stack.capacity })
     ∷ []
 
@@ -125,12 +125,12 @@ unfoldable pub broken_plans : List Plan
 broken_plans =
     -- n from 1 to 64, m at most 256
     no_plan ∷ apart 65 ∷ joined 257
-    -- ends below n, that differ; a capacity at most 1,000,000
+    -- ends below n, that differ; a capacity at most 8,000,000
     ∷ with_a (set network_a.a 2 4) ∷ with_b (set network_a.b 2 4) ∷ with_b (set network_a.b 0 0)
-    ∷ with_capacities (set network_a.capacity 0 1000001)
+    ∷ with_capacities (set network_a.capacity 0 8000001)
     -- the stack: at most 64 entries, its links and capacities within the limits
     ∷ with_stack (record { depth = 65; link = no_stack.link; capacity = no_stack.capacity })
-    ∷ with_stack (push no_stack 5 3) ∷ with_stack (push no_stack 1 1000001)
+    ∷ with_stack (push no_stack 5 3) ∷ with_stack (push no_stack 1 8000001)
     -- unused places are 0
     ∷ with_a (set network_a.a 5 1) ∷ with_b (set network_a.b 255 1) ∷ with_capacities (set network_a.capacity 5 1)
     ∷ with_parents (set tree_a.parent 4 1) ∷ with_weights (set tree_a.weight 63 1)
@@ -141,8 +141,8 @@ broken_plans =
     ∷ with_parents (set tree_a.parent 0 1) ∷ with_weights (set tree_a.weight 0 1)
     -- every node reaches node 0: here nodes 1 and 2 are each other's parent
     ∷ with_parents (set (set tree_a.parent 1 2) 2 1)
-    -- a weight and a step's value are at most 256,000,000
-    ∷ with_weights (set tree_a.weight 1 256000001) ∷ with_values (set steps_a.value 1 256000001)
+    -- a weight and a step's value are at most 2,048,000,000
+    ∷ with_weights (set tree_a.weight 1 2048000001) ∷ with_values (set steps_a.value 1 2048000001)
     -- a side holds its node, not its pivot, and no bit of n or above
     ∷ with_sides (set steps_a.side 1 8) ∷ with_sides (set steps_a.side 1 3) ∷ with_sides (set steps_a.side 1 18)
     -- a pivot is below n

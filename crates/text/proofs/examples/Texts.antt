@@ -31,8 +31,8 @@ lowest : text_of (negsuc 999999999) ≡ 45 ∷ 49 ∷ 48 ∷ 48 ∷ 48 ∷ 48 �
 unfolding text_of digits
 lowest = refl
 
--- the highest, "25600000.0"
-highest : text_of (pos 256000000) ≡ 32 ∷ 32 ∷ 50 ∷ 53 ∷ 54 ∷ 48 ∷ 48 ∷ 48 ∷ 48 ∷ 48 ∷ 46 ∷ 48 ∷ []
+-- the highest, "204800000.0", all but one
+highest : text_of (pos 2048000000) ≡ 32 ∷ 50 ∷ 48 ∷ 52 ∷ 56 ∷ 48 ∷ 48 ∷ 48 ∷ 48 ∷ 48 ∷ 46 ∷ 48 ∷ []
 unfolding text_of digits
 highest = refl
 
