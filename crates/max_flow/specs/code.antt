@@ -1,6 +1,7 @@
 -- What the contracts and invariants of single functions cite.
 pub mod Residuals
 pub mod Search
+pub mod Ends
 pub mod Scan
 pub mod Push
 pub mod LinkFlows

@@ -3,6 +3,7 @@
 ghost use Rattle.std.specs.Prelude.{length, ◌≡◌, ℕ, ◌-◌, ◌≤◌};
 ghost use Rattle.base.specs.Basics.{at};
 ghost use Rattle.max_flow.specs.code.Augment.{Augmented};
+ghost use Rattle.max_flow.specs.code.Ends.{OfNetwork};
 ghost use Rattle.max_flow.specs.code.Push.{Sending};
 ghost use Rattle.max_flow.specs.code.Residuals.{Sent};
 ghost use Rattle.network.specs.declared.Network.{Network};
@@ -44,14 +45,15 @@ impl Ends<'_> {
     // Flow is sent until no search reaches t. `total` is carried along and raised by each improvement: at every turn it
     // is what leaves s less what enters s, of the flow that `flow` holds (`Flowing`). What was reached at the end is
     // the least minimum cut, and what each link carries is written to `out`, as far as that has places.
-    #[tactic(auto, using(network::proofs::laws::NetworkLaws::nodes_le))]
     pub(crate) fn augment(self, out: &mut [i32]) -> Cut
-        requires { length out.old ≤ self.prepared.now.net.network.links }
-        ensures { Augmented self.entry.prepared.now.net.network self.entry.s self.entry.t result out.old out.new }
+        requires { (net : Network) × OfNetwork net self × (length out.old ≤ net.links) }
+        ensures { (net : Network)
+            → OfNetwork net self.entry
+            → Augmented net self.entry.s self.entry.t result out.old out.new }
     {
         let mut flow = Flow {
-            residual: self.prepared.full,
-            hints: self.prepared.hints,
+            residual: *self.full,
+            hints: *self.start,
         };
         let mut total: u32 = 0;
         loop {
@@ -60,7 +62,7 @@ impl Ends<'_> {
             let residual = flow.residual;
             let tree = self.search(residual);
             if !contains(tree.reached, self.t) {
-                write_flow(&self.prepared.full, &flow.residual, out);
+                write_flow(self.full, &flow.residual, out);
                 return Cut {
                     side: tree.reached,
                     value: total,

@@ -1,13 +1,22 @@
-// Two nodes of a network.
-ghost use Rattle.max_flow.specs.LeastCut.{Endpoints};
+// Two nodes of a network, and what is lent of it.
+ghost use Rattle.std.specs.Prelude.{◌<◌};
+ghost use Rattle.network.specs.Limits.{max_nodes};
 
-use crate::prepared::Prepared;
+use flow_hints::{ArcTable, Hints, Residual};
+use network::{ArcLink, MAX_ARCS, MAX_NODES};
 
-// The two that flow is sent between, from s to t, and the network that they are of.
+// The two that flow is sent between, from s to t, with their network's arcs, the table of these, its full residual
+// capacities and the hints to start with. The network is named in contracts (`OfNetwork`), and not handed over.
 #[derive(Clone, Copy)]
 pub struct Ends<'a> {
-    pub prepared: &'a Prepared<'a>,
+    pub first: &'a [ArcLink; MAX_NODES],
+    pub next: &'a [ArcLink; MAX_ARCS],
+    pub to: &'a [u8; MAX_ARCS],
+    pub table: &'a ArcTable,
+    pub full: &'a Residual,
+    pub start: &'a Hints,
     pub s: usize,
     pub t: usize,
-    pub ghost two: { Endpoints prepared.now.net.network s t },
+    pub ghost s_within: { s < max_nodes },
+    pub ghost t_within: { t < max_nodes },
 }

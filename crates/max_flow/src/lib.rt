@@ -15,7 +15,7 @@ ghost use Rattle.max_flow.specs.LargestFlow.{LargestFlow};
 ghost use Rattle.max_flow.specs.LeastCut.{Endpoints, least_cut_of};
 
 use crate::ends::Ends;
-pub use crate::prepared::Prepared;
+pub use crate::prepared::{Prepared, least_cut_by};
 pub use flow_hints::ArcTable;
 use network::ValidNetwork;
 
@@ -38,6 +38,7 @@ pub fn least_min_cut(net: ValidNetwork, s: usize, t: usize) -> Cut
 }
 
 // A lawful flow from s to t of the largest total, a number for each link. Which one is left open.
+#[tactic(auto, using(network::proofs::laws::NetworkLaws::nodes_le))]
 pub fn lawful_flow(net: ValidNetwork, s: usize, t: usize, out: &mut [i32])
     requires endpoints { Endpoints net.network s t }
     requires out_len { length out.old ≡ net.network.links }
@@ -46,7 +47,12 @@ pub fn lawful_flow(net: ValidNetwork, s: usize, t: usize, out: &mut [i32])
     let mut table = ArcTable::none();
     let prepared = Prepared::new(net, &mut table);
     let ends = Ends {
-        prepared: &prepared,
+        first: &prepared.arcs.first,
+        next: &prepared.arcs.next,
+        to: &prepared.arcs.to,
+        table: prepared.table,
+        full: &prepared.full,
+        start: &prepared.hints,
         s,
         t,
     };

@@ -1,6 +1,8 @@
 // The search for an augmenting path (the paper: the search for a way), over the arcs that have residual capacity.
 ghost use Rattle.std.specs.Prelude.{◌≡◌, ◌<◌};
+ghost use Rattle.max_flow.specs.code.Ends.{OfNetwork};
 ghost use Rattle.max_flow.specs.code.Search.{seed_of, Searched};
+ghost use Rattle.network.specs.declared.Network.{Network};
 ghost use Rattle.network.specs.Limits.{max_nodes};
 
 use crate::ends::Ends;
@@ -43,22 +45,30 @@ impl Ends<'_> {
     // Breadth first, until t is reached. The places before i are done: what their arcs lead to is reached.
     // Kept: the project asks for nested loops here, left by a label at the first arc that reaches t; the tree grows as
     // its places are gone over, so no range names them.
-    #[tactic(auto, using(network::proofs::laws::NetworkLaws::nodes_le))]
     pub(crate) fn search(self, residual: Residual) -> SearchTree
-        ensures { Searched self.entry.prepared.now.net.network residual self.entry.s self.entry.t result }
+        requires { (net : Network) × OfNetwork net self }
+        ensures { (net : Network)
+            → OfNetwork net self.entry
+            → Searched net residual self.entry.s self.entry.t result }
     {
-        let Ends { prepared, s, t } = self;
-        let arcs = &prepared.arcs;
+        let Ends {
+            first,
+            next,
+            to,
+            s,
+            t,
+            ..
+        } = self;
         let mut tree = seed(s);
         let mut i: usize = 0;
         'search: while i < tree.count {
             let u = tree.node[i] as usize;
-            let mut link = arcs.first[u];
+            let mut link = first[u];
             // Kept: a walk along a chain of arcs: `successors` asks for the next link before the arc is looked at, and
             // once more than is needed where the search is left.
             while let Some(j) = link.arc() {
-                link = arcs.next[j];
-                let x = arcs.to[j] as usize;
+                link = next[j];
+                let x = to[j] as usize;
                 if !contains(tree.reached, x) {
                     let d = room(&residual, j);
                     if d > 0 {

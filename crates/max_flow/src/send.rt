@@ -2,13 +2,14 @@
 // used, so that what is sent is a flow whatever the hints say.
 ghost use Rattle.std.specs.Prelude.{true, ◌≡◌, ◌<◌, ◌≤◌};
 ghost use Rattle.flow_hints.specs.code.Hints.{room_of};
+ghost use Rattle.max_flow.specs.code.Ends.{OfNetwork};
 ghost use Rattle.max_flow.specs.code.Residuals.{Balanced, Flowing};
 ghost use Rattle.max_flow.specs.code.Send.{other_way};
+ghost use Rattle.network.specs.declared.Network.{Network};
 ghost use Rattle.network.specs.Limits.{max_arcs, max_nodes};
 
 use crate::ends::Ends;
 use crate::flow::Flow;
-use crate::prepared::Prepared;
 use crate::residual::{UNLIMITED, along};
 use flow_hints::{Step, room};
 use network::{MAX_ARCS, MAX_NODES};
@@ -33,7 +34,7 @@ struct Load {
 // cut of a sparse network takes 2 to 3 in 100 longer (docs/BENCHMARKS.md, "Forms").
 #[derive(Clone, Copy)]
 struct Sender<'a> {
-    prepared: &'a Prepared<'a>,
+    ends: &'a Ends<'a>,
     t: usize,
 }
 
@@ -55,7 +56,7 @@ impl Sender<'_> {
     fn leads_on(self, load: Load, step: Step) -> bool
         ensures { result ≡ true → Onward self.entry load step }
     {
-        let to = &self.prepared.arcs.to;
+        let to = self.ends.to;
         let tip = to[step.arc] as usize;
         let tail = to[other_way(step.arc)] as usize;
         tip == step.node && tail == load.node && !contains(load.on, step.node)
@@ -64,9 +65,12 @@ impl Sender<'_> {
     // Sends the load to t by `step`, and on from there; how much that is.
     #[cycle(send_send_by_send_from)]
     fn send_by(self, flow: &mut Flow, load: Load, step: Step) -> u32
-        requires balanced { Balanced self.prepared.now.net.network flow.old.residual }
+        requires balanced { (net : Network) × OfNetwork net self.ends.now × Balanced net flow.old.residual }
         requires has_room { 0 < room_of flow.old.residual step.arc }
-        ensures { SendsLoad self.entry load result flow.old.residual flow.new.residual }
+        ensures { (net : Network)
+            → OfNetwork net self.entry.ends.now
+            → Balanced net flow.old.residual
+            → SendsLoad net self.entry load result flow.old.residual flow.new.residual }
     {
         if !self.leads_on(load, step) {
             flow.hints.note_shut(load.node, step.node);
@@ -83,7 +87,7 @@ impl Sender<'_> {
         let d = self.send_from(flow, next);
         along(&mut flow.residual, step.arc, d);
         flow.hints
-            .note_sent(self.prepared.table, load.node, step, spare, d);
+            .note_sent(self.ends.table, load.node, step, spare, d);
         flow.hints.note_short(step.node, load.ring, want, d);
         d
     }
@@ -91,8 +95,11 @@ impl Sender<'_> {
     // The same from a node of the load's ring: all of it at t itself, else what can be sent on to the ring below.
     #[cycle(send_send_by_send_from)]
     fn send_from(self, flow: &mut Flow, load: Load) -> u32
-        requires { Balanced self.prepared.now.net.network flow.old.residual }
-        ensures { SendsLoad self.entry load result flow.old.residual flow.new.residual }
+        requires { (net : Network) × OfNetwork net self.ends.now × Balanced net flow.old.residual }
+        ensures { (net : Network)
+            → OfNetwork net self.entry.ends.now
+            → Balanced net flow.old.residual
+            → SendsLoad net self.entry load result flow.old.residual flow.new.residual }
     {
         if load.node == self.t {
             return load.limit;
@@ -112,8 +119,11 @@ impl Sender<'_> {
     // The same along arcs that the hints name to the load's ring, as long as they name one.
     #[cycle(send_send_by_send_from)]
     fn send(self, flow: &mut Flow, load: Load) -> u32
-        requires { Balanced self.prepared.now.net.network flow.old.residual }
-        ensures { SendsLoad self.entry load result flow.old.residual flow.new.residual }
+        requires { (net : Network) × OfNetwork net self.ends.now × Balanced net flow.old.residual }
+        ensures { (net : Network)
+            → OfNetwork net self.entry.ends.now
+            → Balanced net flow.old.residual
+            → SendsLoad net self.entry load result flow.old.residual flow.new.residual }
     {
         let mut sent: u32 = 0;
         let mut last: Option<Step> = None;
@@ -123,7 +133,7 @@ impl Sender<'_> {
                 return sent;
             }
             let x = lowest(rest);
-            let table = self.prepared.table;
+            let table = self.ends.table;
             let found = match last {
                 Some(tried) if tried.node == x => table.step_behind(&flow.residual, tried),
                 _ => table.step(&flow.residual, load.node, x),
@@ -152,15 +162,16 @@ impl Sender<'_> {
 impl Ends<'_> {
     // Flow is sent from s to t in phases, as long as the hints find a way. `total` is that of the flow which `flow`
     // holds; each phase raises it by what it sends, and the result is that of the flow then.
-    #[tactic(auto, using(network::proofs::laws::NetworkLaws::nodes_le))]
     pub(crate) fn send_all(self, flow: &mut Flow, total: u32) -> u32
-        requires { Flowing self.prepared.now.net.network self.s self.t total flow.old.residual }
+        requires { (net : Network) × OfNetwork net self × Flowing net self.s self.t total flow.old.residual }
         ensures lower_bound { total ≤ result }
-        ensures flowing { Flowing self.entry.prepared.now.net.network self.entry.s self.entry.t result
-            flow.new.residual }
+        ensures flowing { (net : Network)
+            → OfNetwork net self.entry
+            → Flowing net self.entry.s self.entry.t total flow.old.residual
+            → Flowing net self.entry.s self.entry.t result flow.new.residual }
     {
-        let Ends { prepared, s, t } = self;
-        let sender = Sender { prepared, t };
+        let Ends { s, t, .. } = self;
+        let sender = Sender { ends: &self, t };
         let mut raised = total;
         for _ in 0..MAX_NODES {
             let Some(ring) = flow.hints.sweep(s, t) else {

@@ -18,14 +18,8 @@ use Rattle.max_flow.proofs.laws.ResidualLaws.{spare_read}
 use Rattle.max_flow.specs.code.Search.{seed_of, Ready, Searched}
 use Rattle.max_flow.proofs.laws.SearchLaws.{Visited, visited_old, visited_new}
 use Rattle.max_flow.proofs.laws.SearchLaws.{seed_tree, inside, place_lt, node_lt, free, tip_lt}
-use Rattle.max_flow.specs.declared.ends.Ends.{Ends}
 use Rattle.max_flow.specs.declared.search.SearchTree.{SearchTree}
 use Rattle.max_flow.specs.code.Scan.{Done, Fresh, Inner, Looking, Outer, Placed}
-
-pub ready : (ends : Ends)
-    → Ready ends.prepared.now.net.network ends.prepared.now.arcs.first ends.prepared.now.arcs.next
-    ends.prepared.now.arcs.to ends.s ends.t
-ready ends = record { ends = ends.two; chains = ends.prepared.now.chains }
 
 module _ {net : Network} {first next : List ArcLink} {to : List ℕ} {s t : ℕ} (a : Ready net first next to s t) where
   h : network_fits net ≡ true

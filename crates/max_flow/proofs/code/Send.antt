@@ -18,6 +18,7 @@ use Rattle.max_flow.specs.GrowingFlow.{ahead, back}
 use Rattle.max_flow.specs.code.Residuals.{room_on, sent_along, Balanced, Along}
 use Rattle.max_flow.proofs.laws.ResidualLaws.{along_pushed, along_balanced, along_other, spare_read}
 use Rattle.max_flow.proofs.laws.GrowthLaws.{sent_by}
+use Rattle.max_flow.specs.code.Ends.{OfNetwork}
 use Rattle.max_flow.specs.code.Send.{Sends, other_way}
 use Rattle.max_flow.specs.code.Sender.{Onward}
 use Rattle.max_flow.specs.declared.send.Load.{Load}
@@ -61,12 +62,11 @@ pub record Way (net : Network) (r : List (List ℕ)) (on u x j d : ℕ) : Type 0
   pub fits : d ≤ room_on r j
 
 -- a step that leads on, by an arc with room, is a way for all that the arc has room for
-pub way : (sender : Sender) (load : Load) (step : Step) {r : List (List ℕ)} {spare : ℕ}
-    → Balanced sender.prepared.now.net.network r → Onward sender load step → spare ≡ room_of r step.arc
-    → 0 < room_of r step.arc → Way sender.prepared.now.net.network r load.on load.node step.node step.arc spare
-way sender load step {r} b o e p =
-    let net : Network = sender.prepared.now.net.network in
-    let leads = sender.prepared.now.chains.leads in
+pub way : {net : Network} (sender : Sender) (load : Load) (step : Step) {r : List (List ℕ)} {spare : ℕ}
+    → OfNetwork net sender.ends.now → Balanced net r → Onward sender load step → spare ≡ room_of r step.arc
+    → 0 < room_of r step.arc → Way net r load.on load.node step.node step.arc spare
+way {net} sender load step {r} a b o e p =
+    let leads = a.ready.chains.leads in
     let room = spare_read r step.arc in
     let h : step.arc < 2 * net.links = arc_here b step.arc step.arc_within (omega (arith, room, p)) in
     record {

@@ -3,30 +3,53 @@
 use Rattle.std.proofs.Common.{refl, sym, ◌∙◌, ◌-◌, ◌<◌, arith}
 use Rattle.base.specs.Basics.{at}
 use Rattle.network.specs.Limits.{max_nodes}
+use Rattle.network.specs.declared.Network.{Network}
 use Rattle.max_flow.proofs.code.LinkFlows.{moderate}
 use Rattle.max_flow.specs.code.Augment.{Growth}
+use Rattle.max_flow.specs.code.Ends.{OfNetwork}
+use Rattle.max_flow.specs.code.Residuals.{Flowing}
 use Rattle.max_flow.proofs.code.Augment.{grows, sending, at_end_lem, last_lt}
 use Rattle.max_flow.proofs.laws.GrowthLaws.{flow_start}
 use Rattle.max_flow.proofs.ends.Ends.augment.Goals as goal
-use Rattle.max_flow.proofs.ends.Ends.augment.Goals.{After-push-flow, Else-not-contains}
+use Rattle.max_flow.proofs.ends.Ends.augment.Goals.{After-push-flow, After-send_all-total, Else-not-contains}
+
+-- the flow after the phases, of a network that the contract names
+after : (c : After-send_all-total) (net : Network)
+    → OfNetwork net c.args.self
+    → Flowing net c.args.self.s c.args.self.t c.send_all-total.result c.send_all-total.new.flow.residual
+after c net a = c.send_all-total.ensures.flowing net a (c.loop-flow.invariant.1 net a)
 
 pub loop-flow-init : goal.loop-flow-init
-loop-flow-init c = (refl, flow_start c.args.self.two _ c.args.self.prepared.now.unsent)
+loop-flow-init c = (refl, λ net a. flow_start a.ready.ends _ a.unsent)
+
+pub send_all-total-requires : goal.send_all-total-requires
+send_all-total-requires c =
+    let p = c.requires in
+    (p.0, p.1, c.loop-flow.invariant.1 p.0 p.1)
+
+pub search-tree-requires : goal.search-tree-requires
+search-tree-requires c = (c.requires.0, c.requires.1)
 
 pub write_flow-requires : goal.write_flow-requires
 write_flow-requires c =
-    rw c.loop-flow.invariant.0
-    (moderate c.args.self.two c.args.self.prepared.now.unsent c.send_all-total.ensures.flowing _ c.requires)
+    let p = c.requires in
+    let f = after (goal.at.write_flow-requires c).After-send_all-total p.0 p.1 in
+    rw c.loop-flow.invariant.0 (moderate p.1.ready.ends p.1.unsent f _ p.2)
 
 pub returns-then-not-contains : goal.returns-then-not-contains
 returns-then-not-contains c =
-    at_end_lem c.args.self.two c.send_all-total.ensures.flowing c.search-tree.ensures
+    λ net a.
+    at_end_lem a.ready.ends (after (goal.at.returns-then-not-contains c).After-send_all-total net a)
+    (c.search-tree.ensures net a)
     (sym c.contains.ensures ∙ c.if-not-contains.true)
-    c.args.self.prepared.now.unsent (rw c.loop-flow.invariant.0 at c.write_flow.ensures)
+    a.unsent (rw c.loop-flow.invariant.0 at c.write_flow.ensures)
 
 -- the last place of the tree
 last : (c : Else-not-contains) → (0 < c.search-tree.result.count) × (c.search-tree.result.count - 1 < max_nodes)
-last c = last_lt c.args.self.two c.send_all-total.ensures.flowing c.search-tree.ensures
+last c =
+    let p = c.requires in
+    let f = c.send_all-total.ensures.flowing p.0 p.1 (c.loop-flow.invariant.1 p.0 p.1) in
+    last_lt p.1.ready.ends f (c.search-tree.ensures p.0 p.1)
 
 pub offset_bounds-tree-last : goal.offset_bounds-tree-last
 offset_bounds-tree-last c = omega (arith, last (goal.at.offset_bounds-tree-last c).Else-not-contains)
@@ -34,23 +57,37 @@ offset_bounds-tree-last c = omega (arith, last (goal.at.offset_bounds-tree-last 
 pub bounds-tree-last : goal.bounds-tree-last
 bounds-tree-last c = (last (goal.at.bounds-tree-last c).Else-not-contains).1
 
+pub push-flow-requires : goal.push-flow-requires
+push-flow-requires c =
+    let p = c.requires in
+    let f = after (goal.at.push-flow-requires c).After-send_all-total p.0 p.1 in
+    (p.0, c.args.self.s, sending p.1.ready.ends f (c.search-tree.ensures p.0 p.1) (omega arith))
+
 -- the flow after the path
-grown : (c : After-push-flow)
-    → Growth c.args.self.prepared.now.net.network c.args.self.s c.args.self.t c.send_all-total.result
+grown : (c : After-push-flow) (net : Network)
+    → OfNetwork net c.args.self
+    → Growth net c.args.self.s c.args.self.t c.send_all-total.result
     (at c.search-tree.result.bottleneck (c.search-tree.result.count - 1))
     c.push-flow.result
-grown c =
-    let f = c.send_all-total.ensures.flowing in
-    let o = c.search-tree.ensures in
-    grows c.args.self.two f o (sym c.contains.ensures ∙ c.if-not-contains.false)
-    (c.push-flow.ensures c.args.self.prepared.now.net.network c.args.self.s (sending c.args.self.two f o (omega arith)))
+grown c net a =
+    let f = c.send_all-total.ensures.flowing net a (c.loop-flow.invariant.1 net a) in
+    let o = c.search-tree.ensures net a in
+    grows a.ready.ends f o (sym c.contains.ensures ∙ c.if-not-contains.false)
+    (c.push-flow.ensures net c.args.self.s (sending a.ready.ends f o (omega arith)))
 
 pub overflow_add-total : goal.overflow_add-total
-overflow_add-total c = omega (arith, (grown (goal.at.overflow_add-total c).After-push-flow).most)
+overflow_add-total c =
+    let p = c.requires in
+    omega (arith, (grown (goal.at.overflow_add-total c).After-push-flow p.0 p.1).most)
 
 pub loop-flow-smaller : goal.loop-flow-smaller
 loop-flow-smaller c =
-    omega (arith, c.send_all-total.ensures.lower_bound, grown (goal.at.loop-flow-smaller c).After-push-flow)
+    let p = c.requires in
+    let g = grown (goal.at.loop-flow-smaller c).After-push-flow p.0 p.1 in
+    omega (arith, c.send_all-total.ensures.lower_bound, g)
 
 pub loop-flow-preserved : goal.loop-flow-preserved
-loop-flow-preserved c = (c.loop-flow.invariant.0, (grown (goal.at.loop-flow-preserved c).After-push-flow).flowing)
+loop-flow-preserved c = (
+  c.loop-flow.invariant.0,
+  λ net a. (grown (goal.at.loop-flow-preserved c).After-push-flow net a).flowing,
+)
