@@ -7,8 +7,8 @@ ghost use Rattle.cut_tree.specs.Rule.{StepCut, no_tree, no_steps, rule, rule_by}
 
 use crate::keep::Change;
 use crate::{Built, Recorded, Steps, Tree};
-use max_flow::{ArcTable, Cut, Prepared};
-use network::{MAX_NODES, ValidNetwork};
+use max_flow::{ArcTable, Cut, Hints, Prepared, full_residual};
+use network::{MAX_NODES, ValidNetwork, incidence_of};
 
 impl Tree {
     // one of zeros: all nodes are beside node 0, by edges of weight 0
@@ -51,6 +51,8 @@ impl Steps {
 
 // The tree of the rule on `net`, with the cuts that are kept: `kept` gives that of step s, whose pivot is t, if it has
 // one. What the other cuts share is made once.
+// Not inlined, so that a file that is refused takes no memory for its cuts.
+#[inline(never)]
 #[tactic(auto, using(network::proofs::laws::NetworkLaws::nodes_le))]
 fn worked_out<F: Fn(usize, usize) -> Option<Cut>>(net: ValidNetwork, kept: F) -> Built
     requires { (s t : ℕ) → s < max_nodes → t < s → F.pre kept s t }
@@ -58,8 +60,18 @@ fn worked_out<F: Fn(usize, usize) -> Option<Cut>>(net: ValidNetwork, kept: F) ->
         → Gives net.network (F.post kept) cut
         → result ≡ rule_by cut (net.network.nodes - 1) }
 {
+    let arcs = incidence_of(net);
     let mut table = ArcTable::none();
-    let prepared = Prepared::new(net, &mut table);
+    table.fill(net);
+    let full = full_residual(net);
+    let hints = Hints::start(net);
+    let prepared = Prepared {
+        net: &net,
+        arcs: &arcs,
+        table: &table,
+        full: &full,
+        hints: &hints,
+    };
     let mut tree = Tree::new();
     let mut steps = Steps::new();
     let mut count: u32 = 0;

@@ -8,45 +8,30 @@ ghost use Rattle.network.specs.declared.Network.{Network};
 
 use crate::Cut;
 use crate::ends::Ends;
-use crate::residual::full_residual;
 use flow_hints::{ArcTable, Hints, Residual};
-use network::{ArcLink, Incidence, MAX_ARCS, MAX_NODES, ValidNetwork, incidence_of};
+use network::{ArcLink, Incidence, MAX_ARCS, MAX_NODES, ValidNetwork};
 
-// A network with its arcs, their table, and the flow of nothing to start with.
+// A network with its arcs, their table, and the flow of nothing to start with. All of it is lent, since it is large and
+// the memory is the caller's stack (docs/DECISIONS.md, 87).
 #[derive(Clone, Copy)]
 pub struct Prepared<'a> {
-    pub net: ValidNetwork,
-    pub(crate) arcs: Incidence,
-    pub(crate) table: &'a ArcTable,
-    pub(crate) full: Residual,
-    pub(crate) hints: Hints,
-    pub ghost chains: { Chains net.network (2 * net.network.links) arcs.first arcs.next arcs.to },
-    pub ghost unsent: { full ≡ full_residual net.network },
+    pub net: &'a ValidNetwork,
+    pub arcs: &'a Incidence,
+    pub table: &'a ArcTable,
+    pub full: &'a Residual,
+    pub hints: &'a Hints,
+    pub ghost chains: { Chains net.now.network (2 * net.now.network.links) arcs.now.first arcs.now.next arcs.now.to },
+    pub ghost unsent: { full.now ≡ full_residual net.now.network },
 }
 
-impl<'a> Prepared<'a> {
-    // What the cuts of this network share, made once. The table, of no arcs so far, is filled in the caller's memory,
-    // since it is large.
-    pub fn new(net: ValidNetwork, table: &'a mut ArcTable) -> Prepared<'a>
-        ensures { result.net.network ≡ net.network }
-    {
-        table.fill(net);
-        Prepared {
-            net,
-            arcs: incidence_of(net),
-            table,
-            full: full_residual(net),
-            hints: Hints::start(net),
-        }
-    }
-
+impl Prepared<'_> {
     // The least minimum cut of (s, t), for a caller that asks for many of one network.
     pub fn least_cut(&self, s: usize, t: usize) -> Cut
-        requires { Endpoints self.now.net.network s t }
-        ensures { result ≡ least_cut_of self.now.net.network s t }
+        requires { Endpoints self.now.net.now.network s t }
+        ensures { result ≡ least_cut_of self.now.net.now.network s t }
     {
-        let Incidence { first, next, to } = &self.arcs;
-        least_cut_by(&self.full, first, next, to, self.table, &self.hints, s, t)
+        let Incidence { first, next, to } = self.arcs;
+        least_cut_by(self.full, first, next, to, self.table, self.hints, s, t)
     }
 }
 
