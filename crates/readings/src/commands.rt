@@ -1,17 +1,19 @@
 // The commands, each with its arguments, and how they stand in a line. A line may hold any bytes: a number that is
 // missing reads as 0, and in a number what is no digit is passed over.
 use crate::bend::Field;
+use arrayvec::ArrayVec;
 use gate_window::Window;
-use std::alloc::{AllocError, Global};
 
-// The most bytes of a file that a line gives.
+// The most bytes of a file that a line gives, and their digits.
 const MOST_BYTES: usize = 64;
+
+const MOST_DIGITS: usize = 128;
 
 #[derive(Debug, Drop)]
 pub enum Command {
     // `open BYTES`: a file in hexadecimal
     Open {
-        file: Vec<u8>,
+        file: ArrayVec<u8, MOST_BYTES>,
     },
     // `longest LENGTH`
     Longest {
@@ -178,14 +180,17 @@ impl<'a> Words<'a> {
     }
 
     // The bytes whose digits are left, two for each, wherever they stand.
-    fn bytes(self, alloc: Global) -> Result<Vec<u8>, AllocError> {
-        let digits = self.0.iter().filter_map(hex_digit).take(2 * MOST_BYTES);
-        let digits: Vec<u32> = digits.collect(alloc)?;
+    fn bytes(self) -> ArrayVec<u8, MOST_BYTES> {
+        let mut digits: ArrayVec<u32, MOST_DIGITS> = ArrayVec::new();
+        for digit in self.0.iter().filter_map(hex_digit) {
+            let _fits = digits.try_push(digit);
+        }
+        let mut bytes = ArrayVec::new();
         let (pairs, _half) = digits.as_chunks::<2>();
-        pairs
-            .iter()
-            .map(|[high, low]| ((*high << 4 | *low) & 0xff) as u8)
-            .collect(alloc)
+        for [high, low] in pairs {
+            let _fits = bytes.try_push(((*high << 4 | *low) & 0xff) as u8);
+        }
+        bytes
     }
 }
 
@@ -193,13 +198,13 @@ impl Command {
     // The command of a line, behind the first space behind the label and its colon; none where the letter there is none
     // of theirs.
     // Kept: an arm for each letter is the shortest way to say which command it names.
-    pub fn of_line(alloc: Global, line: &[u8]) -> Result<Option<Command>, AllocError> {
+    pub fn of_line(line: &[u8]) -> Option<Command> {
         let (_label, behind) = split_once(line, b':');
         let (_between, command) = split_once(behind, b' ');
         let mut words = Words(command);
-        Ok(Some(match words.letter() {
+        Some(match words.letter() {
             Some(b'o') => Command::Open {
-                file: words.bytes(alloc)?,
+                file: words.bytes(),
             },
             Some(b'l') => Command::Longest {
                 length: words.size(),
@@ -265,7 +270,7 @@ impl Command {
             Some(b'w') => Command::Write {
                 length: words.size(),
             },
-            _ => return Ok(None),
-        }))
+            _ => return None,
+        })
     }
 }

@@ -15,13 +15,15 @@ mod print; // what several commands print
 mod show; // commands that show the plan: tree, edge, steps, network
 mod writing; // the commands write, and again, which opens what is written
 
+ghost use Rattle.std.specs.Prelude.{◌≤◌, length, IfOk};
+
 use commands::Command;
 use plan::Plan;
 use std::io;
 use std::io::Read;
 
 // So many bytes of the input are read.
-const MAX_INPUT: u64 = 65536;
+const MAX_INPUT: usize = 65536;
 
 // The plan that the lines so far left, and where it is printed what comes of the next.
 #[derive(Drop)]
@@ -30,7 +32,7 @@ pub struct Run<'a, R> {
     pub plan: Plan,
 }
 
-impl<R: Print + AllocGlobal> Run<'_, R> {
+impl<R: Print> Run<'_, R> {
     // Does what a command says, on the plan and to it.
     fn obey(&mut self, command: Command) -> io::Result<()> {
         match command {
@@ -75,7 +77,7 @@ impl<R: Print + AllocGlobal> Run<'_, R> {
     fn turn(&mut self, line: &[u8]) -> io::Result<()> {
         self.rt.write_all(line)?;
         print!(self.rt; " ->")?;
-        match Command::of_line(self.rt.alloc(), line)? {
+        match Command::of_line(line) {
             Some(command) => self.obey(command)?,
             None => print!(self.rt; " no command")?,
         }
@@ -83,14 +85,30 @@ impl<R: Print + AllocGlobal> Run<'_, R> {
     }
 }
 
+// Reads until the buffer is full or the input ends, and gives how many bytes were read.
+// Kept: as in `pairs`, `read_to_end` needs a heap, and at first asks for less than what fits.
+fn read_full(input: &mut impl Read, buffer: &mut [u8]) -> io::Result<usize>
+    ensures { IfOk result (λ n. n ≤ length buffer.new) }
+{
+    let mut done = 0;
+    while done < buffer.len() {
+        let n = input.read(&mut buffer[done..])?;
+        if n == 0 {
+            break;
+        }
+        done += n;
+    }
+    Ok(done)
+}
+
 fn main(rt: HostRuntime) -> io::Result<()> {
-    let mut input = Vec::new(rt.alloc());
-    rt.stdin().take(MAX_INPUT).read_to_end(&mut input)?;
+    let mut input = [0u8; MAX_INPUT];
+    let read = read_full(&mut rt.stdin(), &mut input)?;
     let mut run = Run {
         rt: &rt,
         plan: plan::no_plan(),
     };
-    for line in input.split_inclusive(|byte| *byte == b'\n') {
+    for line in input[..read].split_inclusive(|byte| *byte == b'\n') {
         run.turn(line.strip_suffix(b"\n").unwrap_or(line))?;
     }
     Ok(())
