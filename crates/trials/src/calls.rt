@@ -6,11 +6,12 @@ use crate::lightest::lightest_right;
 use crate::machine::{Entry, Machine};
 use crate::pairs::Judge;
 use crate::sides::Sides;
-use network::Refusal;
+use network::{MAX_LINKS, Refusal};
 use plan::{Altered, Plan};
-use std::alloc::{AllocError, Global};
 
-// What stands in a buffer of flows that is not filled.
+// A buffer of flows has at most one place more than links, and what stands in it where it is not filled.
+const PLACES: usize = MAX_LINKS + 1;
+
 const UNFILLED: i32 = 7;
 
 // Whether a change of a link to a capacity, or an undo that is one, was accepted on this plan: it leaves the capacities
@@ -67,7 +68,7 @@ impl Question<'_> {
     }
 
     // Whether a flow is written rightly to a buffer of this length; refused, the buffer is left.
-    pub fn flow_right(self, alloc: Global, length: usize) -> Result<bool, AllocError> {
+    pub fn flow_right(self, length: usize) -> bool {
         let Question {
             plan,
             machine,
@@ -75,22 +76,21 @@ impl Question<'_> {
             s,
             t,
         } = self;
-        let mut out = vec![in alloc; UNFILLED; length]?;
-        let reply = plan::flow(*plan, s, t, &mut out);
+        let mut room = [UNFILLED; PLACES];
+        let out = &mut room[..length.min(PLACES)];
+        let reply = plan::flow(*plan, s, t, out);
         let outcome = machine.check_flow(s, t, length);
-        Ok(
-            reply == outcome
-                && match outcome {
-                    Err(_) => out.iter().all(|&x| x == UNFILLED),
-                    Ok(()) => sides
-                        .weight(s, t)
-                        .is_some_and(|weight| is_lawful(&machine.network, &out, s, t, weight)),
-                },
-        )
+        reply == outcome
+            && match outcome {
+                Err(_) => out.iter().all(|&x| x == UNFILLED),
+                Ok(()) => sides
+                    .weight(s, t)
+                    .is_some_and(|weight| is_lawful(&machine.network, out, s, t, weight)),
+            }
     }
 
     // Whether the headroom beside a demand is right.
-    pub fn headroom_right(self, alloc: Global, demand: u32) -> Result<bool, AllocError> {
+    pub fn headroom_right(self, demand: u32) -> bool {
         let Question {
             plan,
             machine,
@@ -99,9 +99,7 @@ impl Question<'_> {
             t,
         } = self;
         let found = plan::headroom(*plan, s, t, demand);
-        Ok(
-            found.err() == machine.check_headroom(s, t, demand).err()
-                && headroom_right(alloc, found, sides.weight(s, t), demand)?,
-        )
+        found.err() == machine.check_headroom(s, t, demand).err()
+            && headroom_right(found, sides.weight(s, t), demand)
     }
 }

@@ -1,8 +1,8 @@
 // The history as a plain machine (docs/SCOPE.md, 9), kept beside the plan: it is fed the calls and never the plan.
 use crate::keeping::with_capacity;
+use arrayvec::ArrayVec;
 use network::{MAX_CAPACITY, Network, Refusal};
 use plan::{MAX_DEMAND, MAX_DEPTH, Stack};
-use std::alloc::{AllocError, Global};
 
 // A link, and the capacity that it goes to, or that it had before a change.
 #[derive(Clone, Copy, Default, PartialEq, Eq)]
@@ -34,18 +34,25 @@ pub fn check_headroom(n: usize, s: usize, t: usize, demand: u32) -> Result<(), R
 }
 
 // The capacities, in the network that was opened, and the changes that can be undone.
-#[derive(Clone, Drop)]
+#[derive(Drop)]
 pub struct Machine {
     pub network: Network,
-    entries: Vec<Entry>,
+    entries: ArrayVec<Entry, MAX_DEPTH>,
 }
 
 impl Machine {
-    pub fn started(alloc: Global, network: Network) -> Machine {
+    pub fn started(network: Network) -> Machine {
         Machine {
             network,
-            entries: Vec::new(alloc),
+            entries: ArrayVec::new(),
         }
+    }
+
+    // The same again, which cannot fail as `clone` can.
+    pub fn copy(&self) -> Machine {
+        let mut copy = Machine::started(self.network);
+        let _fits = copy.entries.try_extend_from_slice(&self.entries);
+        copy
     }
 
     // What the table of checks says of each call.
@@ -84,15 +91,15 @@ impl Machine {
     }
 
     // A change: accepted, the link and its old capacity are pushed and the capacity is set.
-    pub fn change(&mut self, change: Entry) -> Result<Result<(), Refusal>, AllocError> {
+    pub fn change(&mut self, change: Entry) -> Result<(), Refusal> {
         let outcome = self.check_change(change);
         if outcome.is_ok() {
             let Entry { link, .. } = change;
             let capacity = self.network.capacity.get(link).copied().unwrap_or(0);
-            self.entries.push(Entry { link, capacity })?;
+            let _fits = self.entries.try_push(Entry { link, capacity });
             self.network = with_capacity(self.network, link, change.capacity);
         }
-        Ok(outcome)
+        outcome
     }
 
     // An undo: accepted, the entry on top is popped and its capacity restored.

@@ -25,16 +25,15 @@ use crate::trial::repeat;
 use std::io;
 
 fn main(rt: HostRuntime) -> io::Result<()> {
-    let alloc = rt.alloc();
-    repeat(alloc, 1, 1000, flows::try_network)?.print(&rt, "flow")?;
-    repeat(alloc, 2, 300, trees::try_network)?.print(&rt, "tree")?;
-    let plans = repeat(alloc, 3, 100, plans::try_network)?;
+    repeat(1, 1000, flows::try_network).print(&rt, "flow")?;
+    repeat(2, 300, trees::try_network).print(&rt, "tree")?;
+    let plans = repeat(3, 100, plans::try_network);
     plans.print(&rt, "plan")?;
     print_refusals(&rt, "refusals", &plans.refusals)?;
     print_refusals(&rt, "refusals of previews", &plans.preview_refusals)?;
-    let windows = repeat(alloc, 4, 400, windows::try_network)?;
+    let windows = repeat(4, 400, windows::try_network);
     windows.print(&rt, "window")?;
     print_refusals(&rt, "refusals of readings", &windows.refusals)?;
-    repeat(alloc, 5, 100, flows::try_high_network)?.print(&rt, "flow at the limits")?;
-    repeat(alloc, 6, 50, trees::try_high_network)?.print(&rt, "tree at the limits")
+    repeat(5, 100, flows::try_high_network).print(&rt, "flow at the limits")?;
+    repeat(6, 50, trees::try_high_network).print(&rt, "tree at the limits")
 }

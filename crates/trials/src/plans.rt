@@ -13,7 +13,6 @@ use crate::tally::Kind;
 use crate::trial::Trial;
 use network::{MAX_CAPACITY, MAX_LINKS, MAX_NODES, Network, Refusal};
 use plan::{Altered, MAX_DEMAND, Plan};
-use std::alloc::{AllocError, Global};
 
 // How many lists of calls a plan gets, and of how many nodes and links the networks are: sometimes of so many that m
 // has two bytes.
@@ -121,11 +120,7 @@ impl Run<'_> {
 
     // Judges and counts a change, or an undo, and takes the plan that it leaves. The outcome is what the machine says:
     // the link and its new capacity, or the refusal.
-    fn note(
-        &mut self,
-        outcome: Result<Entry, Refusal>,
-        reply: Result<Altered, Refusal>,
-    ) -> Result<(), AllocError> {
+    fn note(&mut self, outcome: Result<Entry, Refusal>, reply: Result<Altered, Refusal>) {
         let right = match outcome {
             Ok(change) => altered_right(&self.plan, change, reply, &self.machine),
             Err(refusal) => reply == Err(refusal),
@@ -135,31 +130,30 @@ impl Run<'_> {
         }
         self.trial
             .tally
-            .count_call(Kind::Call, outcome.map(|_| ()), right)
+            .count_call(Kind::Call, outcome.map(|_| ()), right);
     }
 
-    fn try_change(&mut self, mut random: Random) -> Result<(), AllocError> {
+    fn try_change(&mut self, mut random: Random) {
         let link = random.draw(self.last_link());
         let capacity = some_capacity(&mut random, &self.machine.network, link);
         let change = Entry { link, capacity };
-        let outcome = self.machine.change(change)?;
+        let outcome = self.machine.change(change);
         let reply = plan::change(self.plan, link, capacity);
-        self.note(outcome.map(|()| change), reply)
+        self.note(outcome.map(|()| change), reply);
     }
 
-    fn try_undo(&mut self) -> Result<(), AllocError> {
+    fn try_undo(&mut self) {
         let outcome = self.machine.undo();
         let reply = plan::undo(self.plan);
-        self.note(outcome, reply)
+        self.note(outcome, reply);
     }
 
     // A pair, flow or headroom call for nodes that may be none or equal, and a look at the lightest edge.
-    fn ask(&mut self, asked: Asked, mut random: Random) -> Result<(), AllocError> {
-        let alloc = self.trial.alloc;
+    fn ask(&mut self, asked: Asked, mut random: Random) {
         let n = self.last_node();
         let s = random.draw(n);
         let t = random.draw(n);
-        let sides = Sides::if_fits(alloc, &self.machine.network)?;
+        let sides = Sides::if_fits(&self.machine.network);
         let machine = &self.machine;
         let question = Question {
             plan: &self.plan,
@@ -174,26 +168,26 @@ impl Run<'_> {
                 let length = self.last_link() + random.draw(1);
                 (
                     machine.check_flow(s, t, length),
-                    question.flow_right(alloc, length)?,
+                    question.flow_right(length),
                 )
             }
             Asked::Headroom => {
                 let demand = some_demand(&mut random);
                 (
                     machine.check_headroom(s, t, demand),
-                    question.headroom_right(alloc, demand)?,
+                    question.headroom_right(demand),
                 )
             }
         };
         let least = least_right(&self.plan, &sides);
         self.trial
             .tally
-            .count_call(Kind::Call, outcome, least && right)
+            .count_call(Kind::Call, outcome, least && right);
     }
 
     // A preview of a change that may be refused, for nodes that may be none or equal. Its draws are not those of the
     // calls.
-    fn try_preview(&mut self) -> Result<(), AllocError> {
+    fn try_preview(&mut self) {
         let mut random = self.trial.random.apart();
         let link = random.last(self.last_link());
         let capacity = some_capacity(&mut { random }, &self.machine.network, link);
@@ -203,14 +197,14 @@ impl Run<'_> {
         let n = self.last_node();
         let s = nodes.draw(n);
         let t = nodes.draw(n);
-        let right = preview_right(self.trial.alloc, &self.plan, &self.machine, change, s, t)?;
+        let right = preview_right(&self.plan, &self.machine, change, s, t);
         let outcome = self.machine.check_preview(change, s, t);
-        self.trial.tally.count_call(Kind::Preview, outcome, right)
+        self.trial.tally.count_call(Kind::Preview, outcome, right);
     }
 
     // A preview, then a call. The next one goes on with draws that this one has made, too.
-    fn one_call(&mut self, mood: Mood) -> Result<(), AllocError> {
-        self.try_preview()?;
+    fn one_call(&mut self, mood: Mood) {
+        self.try_preview();
         let call = Call::drawn(&mut self.trial.random, mood);
         let ahead = self.trial.random;
         self.trial.random.skip(2);
@@ -221,13 +215,12 @@ impl Run<'_> {
         }
     }
 
-    fn try_pairs(&mut self, sides: &Sides) -> Result<(), AllocError> {
+    fn try_pairs(&mut self, sides: &Sides) {
         let Run {
             trial,
             plan,
             machine,
         } = self;
-        let alloc = trial.alloc;
         let Network { nodes, links, .. } = machine.network;
         trial.tally.count_pairs(nodes, |s, t| {
             let question = Question {
@@ -237,51 +230,47 @@ impl Run<'_> {
                 s,
                 t,
             };
-            Ok(question.pair_right() && question.flow_right(alloc, links)?)
-        })
+            question.pair_right() && question.flow_right(links)
+        });
     }
 
-    fn try_list(&mut self) -> Result<(), AllocError> {
+    fn try_list(&mut self) {
         let mood = Mood::of(self.trial.random);
         for _ in 0..mood.list_length() {
-            self.one_call(mood)?;
+            self.one_call(mood);
         }
-        let alloc = self.trial.alloc;
         let net = &self.machine.network;
-        let sides = Sides::if_fits(alloc, net)?;
-        let right = least_right(&self.plan, &sides) && file_right(alloc, &self.plan, net)?;
-        self.trial.tally.count(Kind::List, right)?;
-        self.try_pairs(&sides)
+        let sides = Sides::if_fits(net);
+        let right = least_right(&self.plan, &sides) && file_right(&self.plan, net);
+        self.trial.tally.count(Kind::List, right);
+        self.try_pairs(&sides);
     }
 }
 
 // A plan that is opened from the file of a random network, and its lists of calls.
-pub fn try_network(trial: &mut Trial) -> Result<(), AllocError> {
-    let alloc = trial.alloc;
+pub fn try_network(trial: &mut Trial) {
     let most = if trial.random.last(9) == 0 {
         MANY_LINKS
     } else {
         LINKS
     };
     let network = trial.random.network(LAST_NODE, most);
-    let file = file_of(alloc, &network)?;
+    let file = file_of(&network);
     let Ok(plan) = plan::open(&file) else {
-        return trial.tally.count(Kind::Network, false);
+        trial.tally.count(Kind::Network, false);
+        return;
     };
-    let sides = Sides::if_fits(alloc, &network)?;
+    let sides = Sides::if_fits(&network);
     let opened = plan.network == network && plan.stack.depth == 0;
     let least = lightest_right(&plan) && least_right(&plan, &sides);
-    let damaged = lengthened_right(file_of(alloc, &network)?)? && damaged_right(file)?;
-    trial
-        .tally
-        .count(Kind::Network, opened && least && damaged)?;
+    let damaged = lengthened_right(file_of(&network)) && damaged_right(file);
+    trial.tally.count(Kind::Network, opened && least && damaged);
     let mut run = Run {
         trial: trial.apart(),
         plan,
-        machine: Machine::started(alloc, network),
+        machine: Machine::started(network),
     };
     for _ in 0..LISTS {
-        run.try_list()?;
+        run.try_list();
     }
-    Ok(())
 }

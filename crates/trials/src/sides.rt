@@ -1,12 +1,14 @@
 // A trial of every side. It shares nothing with the code that it judges but the value of a cut, whose contract is its
 // definition.
+use arrayvec::ArrayVec;
 use max_flow::Cut;
 use network::{MAX_NODES, Network, ValidNetwork};
-use std::alloc::{AllocError, Global};
 use std::cmp::Ordering;
 
 // Sides of networks of more nodes are not tried.
 const MOST_NODES: usize = 10;
+
+const MOST_SIDES: usize = 1 << MOST_NODES;
 
 // Kept: this is `node_set::contains` written again, since by it the answers are judged.
 pub fn holds(side: u64, i: usize) -> bool {
@@ -28,28 +30,27 @@ fn best_of(one: Cut, other: Cut) -> Cut {
 // The value of every side: side x is the number x.
 #[derive(Drop)]
 pub struct Sides {
-    values: Vec<u32>,
+    values: ArrayVec<u32, MOST_SIDES>,
 }
 
 impl Sides {
-    // Kept: whoever allocates is lent the allocator; a struct of it and the network would be made for each call and
-    // taken apart in it.
-    pub fn of(alloc: Global, net: ValidNetwork) -> Result<Sides, AllocError> {
+    pub fn of(net: ValidNetwork) -> Sides {
         let n = net.network.nodes;
         let sides = if n > MOST_NODES { 0 } else { 1u64 << n };
-        let values = (0..sides).map(|side| network::cut_value(net, side));
-        Ok(Sides {
-            values: values.collect(alloc)?,
-        })
+        let mut values = ArrayVec::new();
+        for side in 0..sides {
+            let _fits = values.try_push(network::cut_value(net, side));
+        }
+        Sides { values }
     }
 
     // The same of any record; none where it is no network within the limits.
-    pub fn if_fits(alloc: Global, net: &Network) -> Result<Sides, AllocError> {
+    pub fn if_fits(net: &Network) -> Sides {
         match ValidNetwork::new(*net) {
-            Some(valid) => Sides::of(alloc, valid),
-            None => Ok(Sides {
-                values: Vec::new(alloc),
-            }),
+            Some(valid) => Sides::of(valid),
+            None => Sides {
+                values: ArrayVec::new(),
+            },
         }
     }
 

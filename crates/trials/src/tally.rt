@@ -2,12 +2,10 @@
 ghost use Rattle.std.specs.Prelude.{ℕ, ◌<◌, ◌≢◌};
 
 use network::Refusal;
-use std::alloc::{AllocError, Global};
-use std::collections::{BTreeMap, BTreeSet};
 use std::{fmt, io};
 
 // What is compared, in the order that it is printed in.
-#[derive(Clone, Copy, PartialEq, Eq, PartialOrd, Ord)]
+#[derive(Clone, Copy)]
 pub enum Kind {
     Network,
     Change,
@@ -19,6 +17,21 @@ pub enum Kind {
     RefusedReading,
     Pair,
 }
+
+// How many there are, and all of them in that order.
+const KINDS: usize = 9;
+
+const ALL: [Kind; KINDS] = [
+    Kind::Network,
+    Kind::Change,
+    Kind::List,
+    Kind::Call,
+    Kind::Preview,
+    Kind::RefusedPreview,
+    Kind::Reading,
+    Kind::RefusedReading,
+    Kind::Pair,
+];
 
 impl Kind {
     // What a call of this kind is counted as where it is refused.
@@ -48,90 +61,93 @@ impl fmt::Display for Kind {
     }
 }
 
-// How many of each kind were compared, and how many disagreed. The counts stay far below 2^64.
-#[derive(Drop)]
+// One more than the highest number of a refusal.
+const NUMBERS: usize = 21;
+
+// The refusals that came, each at its number.
+// Kept: a `BTreeSet` needs a heap, as a `BTreeMap` of the counts by kind would below.
+#[derive(Clone, Copy)]
+pub struct Refusals([Option<Refusal>; NUMBERS]);
+
+impl Refusals {
+    fn insert(&mut self, refusal: Refusal) {
+        if let Some(place) = self.0.get_mut(refusal.number() as usize) {
+            *place = Some(refusal);
+        }
+    }
+}
+
+// How many of each kind were compared, in their order, and how many disagreed. The counts stay far below 2^64.
+#[derive(Clone, Copy)]
 pub struct Tally {
-    counts: BTreeMap<Kind, u64>,
+    counts: [u64; KINDS],
     wrong: u64,
     // the refusals that came, and those of previews
-    pub refusals: BTreeSet<Refusal>,
-    pub preview_refusals: BTreeSet<Refusal>,
+    pub refusals: Refusals,
+    pub preview_refusals: Refusals,
 }
 
 impl Tally {
-    pub fn new(alloc: Global) -> Tally {
+    pub fn new() -> Tally {
         Tally {
-            counts: BTreeMap::new(alloc),
+            counts: [0; KINDS],
             wrong: 0,
-            refusals: BTreeSet::new(alloc),
-            preview_refusals: BTreeSet::new(alloc),
+            refusals: Refusals([None; NUMBERS]),
+            preview_refusals: Refusals([None; NUMBERS]),
         }
     }
 
-    pub fn count(&mut self, kind: Kind, right: bool) -> Result<(), AllocError> {
-        let times = self.counts.entry(kind)?.or_insert(0);
-        *times = times.saturating_add(1);
+    pub fn count(&mut self, kind: Kind, right: bool) {
+        if let Some(times) = self.counts.get_mut(kind as usize) {
+            *times = times.saturating_add(1);
+        }
         if !right {
             self.wrong = self.wrong.saturating_add(1);
         }
-        Ok(())
     }
 
     // Counts a call, and notes its refusal, if it was refused. Previews have a set of their own.
-    pub fn count_call(
-        &mut self,
-        kind: Kind,
-        outcome: Result<(), Refusal>,
-        right: bool,
-    ) -> Result<(), AllocError> {
+    pub fn count_call(&mut self, kind: Kind, outcome: Result<(), Refusal>, right: bool) {
         let Err(refusal) = outcome else {
             return self.count(kind, right);
         };
-        self.count(kind.refused(), right)?;
+        self.count(kind.refused(), right);
         let refusals = match kind {
             Kind::Preview => &mut self.preview_refusals,
             _ => &mut self.refusals,
         };
-        refusals.insert(refusal)?;
-        Ok(())
+        refusals.insert(refusal);
     }
 
     // Counts each two of n nodes, in both orders, as they are judged.
-    pub fn count_pairs<F: Fn(usize, usize) -> Result<bool, AllocError>>(
-        &mut self,
-        n: usize,
-        judge: F,
-    ) -> Result<(), AllocError>
+    pub fn count_pairs<F: Fn(usize, usize) -> bool>(&mut self, n: usize, judge: F)
         requires { (s t : ℕ) → s < n → t < n → s ≢ t → F.pre judge s t }
     {
         for s in 0..n {
             for t in 0..n {
                 if s != t {
-                    self.count(Kind::Pair, judge(s, t)?)?;
+                    self.count(Kind::Pair, judge(s, t));
                 }
             }
         }
-        Ok(())
     }
 
     // " 12 things" of each kind that there is, and the disagreements
     pub fn print(&self, rt: &impl Print, name: &str) -> io::Result<()> {
         print!(rt; "{name}")?;
-        for (kind, count) in &self.counts {
-            print!(rt; " {count} {kind}")?;
+        for (kind, count) in ALL.iter().zip(&self.counts) {
+            if *count > 0 {
+                print!(rt; " {count} {kind}")?;
+            }
         }
         println!(rt; " {} disagreements", self.wrong)
     }
 }
 
 // Words, and the numbers of the refusals that came.
-pub fn print_refusals(
-    rt: &impl Print,
-    words: &str,
-    refusals: &BTreeSet<Refusal>,
-) -> io::Result<()> {
+pub fn print_refusals(rt: &impl Print, words: &str, refusals: &Refusals) -> io::Result<()> {
     print!(rt; "{words}")?;
-    for refusal in refusals {
+    for refusal in refusals.0.iter().flatten() {
         print!(rt; " {refusal}")?;
     }
     println!(rt)

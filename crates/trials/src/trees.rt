@@ -9,7 +9,6 @@ use crate::tally::{Kind, Tally};
 use crate::trial::Trial;
 use cut_tree::Steps;
 use network::{MAX_CAPACITY, MAX_LINKS, ValidNetwork};
-use std::alloc::AllocError;
 
 // How often a network is changed, and of how many nodes and links the networks are.
 const CHANGES: usize = 5;
@@ -22,15 +21,15 @@ const LINKS: usize = 16;
 const LAST_OF_FEW: usize = 3;
 
 // Counts all pairs of a judge's tree.
-fn try_pairs(tally: &mut Tally, judge: Judge) -> Result<(), AllocError>
+fn try_pairs(tally: &mut Tally, judge: Judge)
     requires { Climbs judge.nodes judge.tree.now.parent }
 {
     let Judge { tree, nodes, .. } = judge;
     tally.count_pairs(nodes, |s, t| {
         let here = cut_tree::query(*tree, nodes, s, t);
         let there = cut_tree::query(*tree, nodes, t, s);
-        Ok(judge.both_right(here, there, s, t))
-    })
+        judge.both_right(here, there, s, t)
+    });
 }
 
 // A network on its way through changes, with the steps of its tree, and the trial that draws and counts them.
@@ -44,7 +43,7 @@ struct Walk<'a> {
 impl Walk<'_> {
     // Link k goes to capacity d, which makes the network `changed`: whether a rebuild is what a fresh build is, and its
     // count the keeping rule's; and all pairs of the fresh tree.
-    fn compare(&mut self, changed: ValidNetwork, k: usize, d: u32) -> Result<(), AllocError>
+    fn compare(&mut self, changed: ValidNetwork, k: usize, d: u32)
         requires { Changes self.old.network.network k d }
     {
         let n = changed.network.nodes;
@@ -58,23 +57,22 @@ impl Walk<'_> {
         let right = rebuilt.tree == fresh.tree
             && rebuilt.steps == fresh.steps
             && counted == Some(rebuilt.count as usize);
-        self.trial.tally.count(Kind::Change, right)?;
+        self.trial.tally.count(Kind::Change, right);
         let judge = Judge {
             tree: &fresh.tree,
             nodes: n,
-            sides: &Sides::of(self.trial.alloc, changed)?,
+            sides: &Sides::of(changed),
         };
-        try_pairs(self.trial.tally, judge)?;
+        try_pairs(self.trial.tally, judge);
         self.network = changed;
         self.steps = rebuilt.steps;
-        Ok(())
     }
 
     // One change of a random link, where there is a link.
-    fn change_once(&mut self) -> Result<(), AllocError> {
+    fn change_once(&mut self) {
         let net = self.network.network;
         if net.links == 0 {
-            return Ok(());
+            return;
         }
         let k = self.trial.random.draw(net.links - 1);
         let mut ahead = self.trial.random;
@@ -88,9 +86,9 @@ impl Walk<'_> {
 }
 
 // A network, where there is one, and its changes.
-fn try_changes(trial: &mut Trial, drawn: Option<ValidNetwork>) -> Result<(), AllocError> {
+fn try_changes(trial: &mut Trial, drawn: Option<ValidNetwork>) {
     let Some(network) = drawn else {
-        return Ok(());
+        return;
     };
     let mut walk = Walk {
         trial: trial.apart(),
@@ -98,19 +96,18 @@ fn try_changes(trial: &mut Trial, drawn: Option<ValidNetwork>) -> Result<(), All
         steps: cut_tree::build(network).steps,
     };
     for _ in 0..CHANGES {
-        walk.change_once()?;
+        walk.change_once();
     }
-    Ok(())
 }
 
 // A random network.
-pub fn try_network(trial: &mut Trial) -> Result<(), AllocError> {
-    let drawn = trial.network(LAST_NODE, LINKS)?;
-    try_changes(trial, drawn)
+pub fn try_network(trial: &mut Trial) {
+    let drawn = trial.network(LAST_NODE, LINKS);
+    try_changes(trial, drawn);
 }
 
 // A network of the highest weights.
-pub fn try_high_network(trial: &mut Trial) -> Result<(), AllocError> {
-    let drawn = trial.high_network(LAST_OF_FEW, MAX_LINKS)?;
-    try_changes(trial, drawn)
+pub fn try_high_network(trial: &mut Trial) {
+    let drawn = trial.high_network(LAST_OF_FEW, MAX_LINKS);
+    try_changes(trial, drawn);
 }

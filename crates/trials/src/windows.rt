@@ -1,16 +1,17 @@
 // A gate's record through random lists of resets and readings on random plans (docs/SCOPE.md, 6), written again: the
 // headrooms since the last reset are kept in order, and limits come from a trial of every side.
 use crate::files::{cut, file_of};
-use crate::headrooms::tenths;
+use crate::headrooms::{TEXT_ROOM, tenths};
 use crate::machine::check_headroom;
 use crate::random::Random;
 use crate::sides::Sides;
 use crate::tally::Kind;
 use crate::trial::Trial;
+use arrayvec::{ArrayString, ArrayVec};
 use gate_window::{MAX_READINGS, Noted, Window, WindowReply};
 use network::{MAX_NODES, Refusal};
 use plan::{MAX_DEMAND, Plan};
-use std::alloc::{AllocError, Global};
+use std::fmt::Write;
 
 // The resets and readings of a list, and of how many nodes and links the networks are.
 const LIST: usize = 40;
@@ -80,14 +81,14 @@ fn some_demand(random: &mut Random, weight: u32) -> u32 {
 #[derive(Drop)]
 struct Kept {
     start: Window,
-    headrooms: Vec<i32>,
+    headrooms: ArrayVec<i32, LIST>,
 }
 
 impl Kept {
-    fn new(alloc: Global, start: Window) -> Kept {
+    fn new(start: Window) -> Kept {
         Kept {
             start,
-            headrooms: Vec::new(alloc),
+            headrooms: ArrayVec::new(),
         }
     }
 
@@ -120,12 +121,19 @@ impl Kept {
     }
 }
 
+// A text behind as many spaces as make it four bytes.
+fn padded(text: &str) -> ArrayString<TEXT_ROOM> {
+    let mut padded = ArrayString::new();
+    let _fits = write!(padded, "{text:>4}");
+    padded
+}
+
 // What a window shows of a headroom.
-fn shown(alloc: Global, headroom: i32) -> Result<String, AllocError> {
+fn shown(headroom: i32) -> ArrayString<TEXT_ROOM> {
     match headroom {
-        ..-99 => format!(in alloc; "LOW "),
-        -99..1000 => format!(in alloc; "{:>4}", tenths(alloc, headroom as i64)?),
-        1000.. => format!(in alloc; "HIGH"),
+        ..-99 => padded("LOW "),
+        -99..1000 => padded(tenths(headroom as i64).as_str()),
+        1000.. => padded("HIGH"),
     }
 }
 
@@ -154,7 +162,7 @@ impl<'a> Run<'a> {
             lowest: headroom,
             count,
         };
-        let kept = Kept::new(trial.alloc, window);
+        let kept = Kept::new(window);
         Run {
             trial,
             plan,
@@ -165,7 +173,7 @@ impl<'a> Run<'a> {
     }
 
     // Whether a reading gives the reply and leaves the record that it has to, by itself and on a copy.
-    fn try_reading(&mut self, r: Reading) -> Result<(), AllocError> {
+    fn try_reading(&mut self, r: Reading) {
         let p = self.plan;
         let Reading { s, t, demand, .. } = r;
         let before = self.window;
@@ -173,10 +181,10 @@ impl<'a> Run<'a> {
         let (expected, text) = match outcome {
             Ok(()) => {
                 let headroom = r.headroom().unwrap_or(0);
-                self.kept.headrooms.push(headroom)?;
-                (0, shown(self.trial.alloc, headroom)?)
+                let _fits = self.kept.headrooms.try_push(headroom);
+                (0, shown(headroom))
             }
-            Err(refusal) => (refusal.number(), format!(in self.trial.alloc; "    ")?),
+            Err(refusal) => (refusal.number(), padded("")),
         };
         let reply = gate_window::reading(&mut self.window, *p, s, t, demand);
         let window = self.window;
@@ -187,41 +195,39 @@ impl<'a> Run<'a> {
             && got.text.as_slice() == text.as_bytes()
             && window == self.kept.window()
             && noted == reply.map(|text| Noted { window, text });
-        self.trial.tally.count_call(Kind::Reading, outcome, right)
+        self.trial.tally.count_call(Kind::Reading, outcome, right);
     }
 
     // A reset, or mostly a reading. A reset leaves out the draws of a reading.
-    fn one_step(&mut self) -> Result<(), AllocError> {
+    fn one_step(&mut self) {
         if self.trial.random.draw(12) == 0 {
             self.trial.random.skip(4);
             gate_window::reset(&mut self.window);
-            self.kept = Kept::new(self.trial.alloc, Window::new());
-            return Ok(());
+            self.kept = Kept::new(Window::new());
+            return;
         }
         let (n, sides) = (self.plan.network.nodes, self.sides);
         let reading = Reading::drawn(&mut self.trial.random, n, sides);
-        self.try_reading(reading)
+        self.try_reading(reading);
     }
 }
 
 // A list on the plan of a file, or sometimes on that beside the refusal of the file without its last byte.
-pub fn try_network(trial: &mut Trial) -> Result<(), AllocError> {
-    let alloc = trial.alloc;
+pub fn try_network(trial: &mut Trial) {
     let net = trial.random.network(LAST_NODE, LINKS);
     let apart = trial.apart();
-    let file = file_of(alloc, &net)?;
-    let sides = Sides::if_fits(alloc, &net)?;
+    let file = file_of(&net);
+    let sides = Sides::if_fits(&net);
     let is_cut = apart.random.last(9) == 9;
     let opened = plan::open(if is_cut { cut(&file) } else { &file });
     let expected = is_cut.then_some(Refusal::EndsEarly);
     apart.tally.count(
         Kind::List,
         opened.err().map(|fault| fault.refusal) == expected,
-    )?;
+    );
     let plan = opened.unwrap_or(plan::no_plan());
     let mut run = Run::started(apart, &plan, &sides);
     for _ in 0..LIST {
-        run.one_step()?;
+        run.one_step();
     }
-    Ok(())
 }
