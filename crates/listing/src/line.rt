@@ -26,9 +26,13 @@ impl<'a> Lines<'a> {
         requires { Room self.old word.now }
         ensures { Adds self.old word.now self.new }
     {
-        let end = self.place + word.len();
-        self.out[self.place..end].copy_from_slice(word);
-        self.place = end;
+        // Kept: `copy_from_slice` would have the archive for C ask for a `memmove` from outside.
+        let mut next = self.place;
+        for byte in word {
+            self.out[next] = *byte;
+            next += 1;
+        }
+        self.place = next;
     }
 
     fn number(&mut self, number: u64)
