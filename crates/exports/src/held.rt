@@ -156,7 +156,7 @@ pub extern "C" fn pamzolit_preview(
     let found = plan::preview(*plan, link, capacity, s, t);
     *count = found.map_or(0, |found| found.count);
     *reply = PairReply::from(found.map(|found| found.pair));
-    reply.number
+    number_of(&found)
 }
 
 // The pair's weight less a demand, as a number and as text.
