@@ -3,15 +3,13 @@ ghost use Rattle.std.specs.Prelude.{◌<◌};
 ghost use Rattle.network.specs.Limits.{max_nodes};
 
 use flow_hints::{ArcTable, Hints, Residual};
-use network::{ArcLink, MAX_ARCS, MAX_NODES};
+use network::Incidence;
 
 // The two that flow is sent between, from s to t, with their network's arcs, the table of these, its full residual
 // capacities and the hints to start with. The network is named in contracts (`OfNetwork`), and not handed over.
 #[derive(Clone, Copy)]
 pub struct Ends<'a> {
-    pub first: &'a [ArcLink; MAX_NODES],
-    pub next: &'a [ArcLink; MAX_ARCS],
-    pub to: &'a [u8; MAX_ARCS],
+    pub arcs: &'a Incidence,
     pub table: &'a ArcTable,
     pub full: &'a Residual,
     pub start: &'a Hints,

@@ -42,9 +42,7 @@ fn augment_net(net: ValidNetwork, s: usize, t: usize, out: &mut [i32]) -> Cut
     let full = full_residual(net);
     let start = Hints::start(net);
     let ends = Ends {
-        first: &arcs.first,
-        next: &arcs.next,
-        to: &arcs.to,
+        arcs: &arcs,
         table: &table,
         full: &full,
         start: &start,

@@ -9,7 +9,7 @@ ghost use Rattle.network.specs.declared.Network.{Network};
 use crate::Cut;
 use crate::ends::Ends;
 use flow_hints::{ArcTable, Hints, Residual};
-use network::{ArcLink, Incidence, MAX_ARCS, MAX_NODES, ValidNetwork};
+use network::{Incidence, ValidNetwork};
 
 // A network with its arcs, their table, and the flow of nothing to start with. All of it is lent, since it is large and
 // the memory is the caller's stack (docs/DECISIONS.md, 87).
@@ -30,8 +30,7 @@ impl Prepared<'_> {
         requires { Endpoints self.now.net.now.network s t }
         ensures { result ≡ least_cut_of self.now.net.now.network s t }
     {
-        let Incidence { first, next, to } = self.arcs;
-        least_cut_by(self.full, first, next, to, self.table, self.hints, s, t)
+        least_cut_by(self.full, self.arcs, self.table, self.hints, s, t)
     }
 }
 
@@ -41,24 +40,20 @@ impl Prepared<'_> {
 #[tactic(auto, using(network::proofs::laws::NetworkLaws::nodes_le))]
 pub fn least_cut_by(
     full: &Residual,
-    first: &[ArcLink; MAX_NODES],
-    next: &[ArcLink; MAX_ARCS],
-    to: &[u8; MAX_ARCS],
+    arcs: &Incidence,
     table: &ArcTable,
     start: &Hints,
     s: usize,
     t: usize,
 ) -> Cut
-    requires { (net : Network) × Ready net first.now next.now to.now s t × (full.now ≡ full_residual net) }
+    requires { (net : Network) × Ready net arcs.now.first arcs.now.next arcs.now.to s t × (full.now ≡ full_residual net) }
     ensures { (net : Network)
-        → Ready net first.now next.now to.now s t
+        → Ready net arcs.now.first arcs.now.next arcs.now.to s t
         → full.now ≡ full_residual net
         → result ≡ least_cut_of net s t }
 {
     let ends = Ends {
-        first,
-        next,
-        to,
+        arcs,
         table,
         full,
         start,

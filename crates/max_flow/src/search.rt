@@ -51,24 +51,17 @@ impl Ends<'_> {
             → OfNetwork net self.entry
             → Searched net residual self.entry.s self.entry.t result }
     {
-        let Ends {
-            first,
-            next,
-            to,
-            s,
-            t,
-            ..
-        } = self;
+        let Ends { arcs, s, t, .. } = self;
         let mut tree = seed(s);
         let mut i: usize = 0;
         'search: while i < tree.count {
             let u = tree.node[i] as usize;
-            let mut link = first[u];
+            let mut link = arcs.first[u];
             // Kept: a walk along a chain of arcs: `successors` asks for the next link before the arc is looked at, and
             // once more than is needed where the search is left.
             while let Some(j) = link.arc() {
-                link = next[j];
-                let x = to[j] as usize;
+                link = arcs.next[j];
+                let x = arcs.to[j] as usize;
                 if !contains(tree.reached, x) {
                     let d = room(&residual, j);
                     if d > 0 {

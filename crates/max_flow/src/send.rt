@@ -56,7 +56,7 @@ impl Sender<'_> {
     fn leads_on(self, load: Load, step: Step) -> bool
         ensures { result ≡ true → Onward self.entry load step }
     {
-        let to = self.ends.to;
+        let to = &self.ends.arcs.to;
         let tip = to[step.arc] as usize;
         let tail = to[other_way(step.arc)] as usize;
         tip == step.node && tail == load.node && !contains(load.on, step.node)

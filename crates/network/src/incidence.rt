@@ -1,6 +1,6 @@
 // Each node's own arcs, chained, so that a search scans no other node's links: arc 2k goes from a[k] to b[k], and arc
 // 2k + 1 back.
-ghost use Rattle.std.specs.Prelude.{set, ◌≡◌, ◌*◌, ◌<◌};
+ghost use Rattle.std.specs.Prelude.{set, length, ◌≡◌, ◌*◌, ◌<◌};
 ghost use Rattle.network.specs.code.ArcLinks.{link_at, link_to};
 ghost use Rattle.network.specs.code.Incidence.{Chains};
 ghost use Rattle.network.specs.Limits.{max_nodes, max_arcs};
@@ -8,7 +8,7 @@ ghost use Rattle.network.specs.Limits.{max_nodes, max_arcs};
 use crate::{ArcLink, MAX_ARCS, MAX_NODES, ValidNetwork};
 
 // first[u] is the last arc that leaves u, and next[e] the last arc before e with e's tail, or none. to[e] is where
-// arc e leads.
+// arc e leads. The lengths are those of the arrays, for whoever reads them through a reference.
 // Kept: whoever tests an arc reads `to` alone, so that one array of records of next and to would be no plainer; and
 // such a record takes four bytes and not three.
 #[derive(Clone, Copy)]
@@ -16,6 +16,8 @@ pub struct Incidence {
     pub first: [ArcLink; MAX_NODES],
     pub next: [ArcLink; MAX_ARCS],
     pub to: [u8; MAX_ARCS],
+    pub ghost first_length: { length first ≡ max_nodes },
+    pub ghost next_length: { length next ≡ max_arcs },
 }
 
 impl Incidence {

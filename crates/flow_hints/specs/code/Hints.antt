@@ -23,10 +23,11 @@ no_hints = record { ahead = no_sets; into = no_sets; ring = no_sets }
 abbrev pub no_arcs : ArcTable
 no_arcs = record { first = replicate max_nodes (replicate max_nodes no_link); behind = replicate max_arcs no_link }
 
--- the first arc from u to x, and the one behind arc j; no one reads out of bounds, where arc 0 is given
+-- the first arc from u to x; no one reads out of bounds, where arc 0 is given
 abbrev pub first_of : ArcTable → (u x : ℕ) → ArcLink
-first_of table u x = link_at (get_or table.first u []) x
+first_of table u x = get_or (get_or table.first u []) x (link_to 0)
 
+-- the one behind arc j
 abbrev pub behind_of : ArcTable → (j : ℕ) → ArcLink
 behind_of table j = link_at table.behind j
 

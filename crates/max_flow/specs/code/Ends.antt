@@ -8,5 +8,5 @@ use Rattle.max_flow.specs.declared.ends.Ends.{Ends}
 -- the two are nodes of it, and what is lent are its arcs and its full residual capacities; the table and the hints may
 -- be any
 pub record OfNetwork (net : Network) (ends : Ends) : Type 0 where
-  pub ready : Ready net ends.first.now ends.next.now ends.to.now ends.s ends.t
+  pub ready : Ready net ends.arcs.now.first ends.arcs.now.next ends.arcs.now.to ends.s ends.t
   pub unsent : ends.full.now ≡ full_residual net

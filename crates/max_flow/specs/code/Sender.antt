@@ -10,8 +10,8 @@ use Rattle.max_flow.specs.declared.send.Sender.{Sender}
 
 -- the step's arc leads from the load's node to that of the step, which is not on the way already
 pub record Onward (sender : Sender) (load : Load) (step : Step) : Type 0 where
-  pub leads : at sender.ends.now.to.now step.arc ≡ step.node
-  pub starts : at sender.ends.now.to.now (other_way step.arc) ≡ load.node
+  pub leads : at sender.ends.now.arcs.now.to step.arc ≡ step.node
+  pub starts : at sender.ends.now.arcs.now.to (other_way step.arc) ≡ load.node
   pub off : holds load.on step.node ≡ false
 
 -- d of the load is sent from its node to the sender's sink, which leaves r' of r

@@ -1,8 +1,6 @@
 -- Laws of the incidence lists: how they grow link by link, and what a walk along a chain meets.
 use Rattle.std.proofs.Common.{◌≡◌, refl, ◌≢◌, true, set, length, replicate, sym, ap, ◌∙◌, length-set, get_or-set_same}
-use Rattle.std.proofs.Common.{map, get_or-set_other, eq-eqb, ne_eqb, List, ◌∷◌, ℕ, zero, suc, ◌+◌, ◌-◌, ◌*◌, ◌<◌, ◌≤◌, arith}
-use Rattle.std.proofs.lemmas.List.{get_or-map}
-use Rattle.std.proofs.lemmas.Simd.{get_or-replicate}
+use Rattle.std.proofs.Common.{map, get_or-set_other, eq-eqb, ne_eqb, List, [], ◌∷◌, ℕ, zero, suc, ◌+◌, ◌-◌, ◌*◌, ◌<◌, ◌≤◌, arith}
 use Rattle.std.proofs.Math.Decide.{ℕ_discrete}
 use Rattle.min_cut.specs.Cut.{Net}
 use Rattle.min_cut.specs.code.Arcs.{tail, tip}
@@ -18,9 +16,11 @@ use Rattle.network.specs.declared.Network.{Network}
 use Rattle.network.specs.declared.arc_link.ArcLink.{ArcLink}
 
 -- ---- how they grow
-none_at : (u : ℕ) → u < max_nodes → entry_at (replicate max_nodes no_link) u ≡ 0
+none_at : (n u : ℕ) → entry_at (replicate n no_link) u ≡ 0
 unfolding entry
-none_at u l = rw (get_or-replicate max_nodes u no_link (link_to 0) l)
+none_at zero u = refl
+none_at (suc n) zero = refl
+none_at (suc n) (suc u) = none_at n u
 
 -- the chains of the arcs below j, in arrays that have a place for every node and arc
 pub record Built (net : Network) (j : ℕ) (first next : List ArcLink) (to : List ℕ) : Type 0 where
@@ -29,14 +29,14 @@ pub record Built (net : Network) (j : ℕ) (first next : List ArcLink) (to : Lis
   pub arcs : length next ≡ max_arcs
   pub tips : length to ≡ max_arcs
 
-pub built_none : (net : Network) → network_fits net ≡ true
+pub built_none : (net : Network)
     → Built net 0 (replicate max_nodes no_link) (replicate max_arcs no_link) (replicate max_arcs 0)
-built_none net h =
+built_none net =
     record {
       chains =
           record {
             first_leaves = λ u l.
-                let none = none_at u (omega (arith, nodes_le net h)) in
+                let none = none_at max_nodes u in
                 record { under = omega (arith, none); from = λ p. absurd (omega (arith, none)) };
             first_last = λ e l. absurd (omega arith);
             next_leaves = λ e l. absurd (omega arith);
@@ -67,11 +67,11 @@ module _ (net : Network) (h : network_fits net ≡ true) (j u v : ℕ) (first ne
 
   first_u : entry_at first' u ≡ j + 1
   first_u =
-      let here = get_or-set_same first u (link_to j) (link_to 0) (omega (arith, o.nodes, nodes_le net h)) in
+      let here = get_or-set_same first u (link_to j) no_link (omega (arith, o.nodes, nodes_le net h)) in
       rw here (omega (arith, entry_to j (omega (arith, links_le net h))))
 
   next_j : entry_at next' j ≡ entry_at first u
-  next_j = rw (get_or-set_same next j (link_at first u) (link_to 0) (omega (arith, o.arcs, links_le net h)))
+  next_j = rw (get_or-set_same next j (link_at first u) no_link (omega (arith, o.arcs, links_le net h)))
 
   to_j : at to' j ≡ v
   to_j = get_or-set_same to j v 0 (omega (arith, o.tips, links_le net h))
@@ -83,20 +83,20 @@ module _ (net : Network) (h : network_fits net ≡ true) (j u v : ℕ) (first ne
       add_sub j = omega arith
   first_leaves' x lx (no d) =
       let old : Leaves net x j (entry_at first x) = c.first_leaves x lx in
-      rw (get_or-set_other first u x (link_to j) (link_to 0) d) (record { under = omega arith; from = old.from })
+      rw (get_or-set_other first u x (link_to j) no_link d) (record { under = omega arith; from = old.from })
 
   first_last' : (e : ℕ) → e < j + 1 → Dec (tail (graph net) e ≡ u) → Dec (e ≡ j)
       → e < entry_at first' (tail (graph net) e)
   first_last' e le (yes d) q = rw (d, first_u) le
   first_last' e le (no d) (yes q) = absurd (d (ap (tail (graph net)) q ∙ eu))
   first_last' e le (no d) (no q) =
-      rw (get_or-set_other first u (tail (graph net) e) (link_to j) (link_to 0) d)
+      rw (get_or-set_other first u (tail (graph net) e) (link_to j) no_link d)
       (c.first_last e (omega arith))
 
   next_leaves' : (e : ℕ) → e < j + 1 → Dec (e ≡ j) → Leaves net (tail (graph net) e) e (entry_at next' e)
   next_leaves' e le (yes q) = rw (q, next_j, eu) (c.first_leaves u lu)
   next_leaves' e le (no q) =
-      rw (get_or-set_other next j e (link_at first u) (link_to 0) q) (c.next_leaves e (omega arith))
+      rw (get_or-set_other next j e (link_at first u) no_link q) (c.next_leaves e (omega arith))
 
   next_last' : (e i : ℕ) → e < j + 1 → i < e → tail (graph net) i ≡ tail (graph net) e → Dec (e ≡ j)
       → i < entry_at next' e
@@ -104,7 +104,7 @@ module _ (net : Network) (h : network_fits net ≡ true) (j u v : ℕ) (first ne
       let f : tail (graph net) i ≡ u = d ∙ ap (tail (graph net)) q ∙ eu in
       rw (q, next_j) (rw f at (c.first_last i (omega arith)))
   next_last' e i le li d (no q) =
-      rw (get_or-set_other next j e (link_at first u) (link_to 0) q)
+      rw (get_or-set_other next j e (link_at first u) no_link q)
       (c.next_last e i (omega arith) li d)
 
   leads' : (e : ℕ) → e < j + 1 → Dec (e ≡ j) → at to' e ≡ tip (graph net) e
@@ -176,11 +176,14 @@ module _ (G : Net) (u : ℕ) where
       go (yes q) ih = ap (arcs_from G u) (sym q)
       go (no q) ih = arcs_behind i (λ t. absurd (omega (arith, h i (omega arith) t))) ∙ ih (omega arith)
 
-module _ (net : Network) (j : ℕ) (first next : List ArcLink) (to : List ℕ) (c : Chains net j first next to)
-    (long : j ≤ length next) where
-  entry_read : (e : ℕ) → e < j → at (entries next) e ≡ entry_at next e
-  entry_read e l = get_or-map (λ link. entry (arc_of link)) next e (link_to 0) 0 (omega (arith, long))
+-- behind the end there is none, as at 0
+entry_read : (links : List ArcLink) (e : ℕ) → at (entries links) e ≡ entry_at links e
+unfolding entry
+entry_read [] e = refl
+entry_read (x ∷ links) zero = refl
+entry_read (x ∷ links) (suc e) = entry_read links e
 
+module _ (net : Network) (j : ℕ) (first next : List ArcLink) (to : List ℕ) (c : Chains net j first next to) where
   -- from x, one more than the last arc below i that leaves u
   walk_on : (most u i x : ℕ) → i ≤ j → x ≤ most → Leaves net u i x → ((e : ℕ) → e < i → tail (graph net) e ≡ u → e < x)
       → walk most (entries next) x ≡ arcs_from (graph net) u i
@@ -194,7 +197,7 @@ module _ (net : Network) (j : ℕ) (first next : List ArcLink) (to : List ℕ) (
       let ih : walk most (entries next) (entry_at next e) ≡ arcs_from (graph net) u e =
       walk_on most u e (entry_at next e) (omega arith) (omega arith) behind
       (λ d ld t. c.next_last e d l ld (t ∙ sym q)) in
-      rw (entry_read e l) (ap (λ (es : List ℕ). e ∷ es) ih) ∙ sym (arcs_here (graph net) u e q)
+      rw (entry_read next e) (ap (λ (es : List ℕ). e ∷ es) ih) ∙ sym (arcs_here (graph net) u e q)
       ∙ sym (arcs_last (graph net) u i (suc e) o.under h)
 
   -- a walk from `first` at u meets each arc that leaves u, once, in falling order, and no other

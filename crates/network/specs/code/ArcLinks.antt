@@ -19,9 +19,9 @@ is_arc link = ltb link.number max_arcs
 abbrev pub arc_of : ArcLink → Option ℕ
 arc_of link = pick (is_arc link) (Some link.number) None
 
--- link i of those; no one reads out of bounds, where arc 0 is given
+-- link i of those; none behind their end
 abbrev pub link_at : List ArcLink → ℕ → ArcLink
-link_at links i = get_or links i (link_to 0)
+link_at links i = get_or links i no_link
 
 -- one more than an arc, or 0 for none
 unfoldable pub entry : Option ℕ → ℕ

@@ -13,7 +13,7 @@ loop-k-init c =
     let first = c.each_link.ensures in
     rw (links, count) (record {
       numbered = record { given = gives_all first.net first.come; number = sym first.come };
-      built = rw first.come (built_none c.args.net.network c.args.net.fits);
+      built = rw first.come (built_none c.args.net.network);
     })
 
 pub loop-k-preserved : goal.loop-k-preserved

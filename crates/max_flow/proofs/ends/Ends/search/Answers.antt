@@ -1,11 +1,13 @@
 -- `search` meets its contract. Over the places: those before i are done. Over a node's arcs: those that have come are
 -- done. Each turn over the places ends one; a chain of arcs falls.
-use Rattle.std.proofs.Common.{suc, sym, ap, ◌∙◌, ℕ, ◌<◌, arith}
+use Rattle.std.proofs.Common.{◌≡◌, suc, sym, ap, ◌∙◌, ℕ, ◌<◌, get_or, arith}
+use Rattle.std.proofs.lemmas.List.{get_or_default}
 use Rattle.base.specs.Basics.{at}
 use Rattle.network.specs.Limits.{max_nodes}
-use Rattle.network.specs.code.ArcLinks.{arc_of, entry, entry_at}
+use Rattle.network.specs.code.ArcLinks.{no_link, link_to, link_at, arc_of, entry}
 use Rattle.network.proofs.laws.ArcLinkLaws.{entry_some, entry_none}
 use Rattle.network.specs.declared.Network.{Network}
+use Rattle.network.specs.declared.arc_link.ArcLink.{ArcLink}
 use Rattle.max_flow.specs.code.Ends.{OfNetwork}
 use Rattle.max_flow.specs.code.Search.{grown_by}
 use Rattle.max_flow.specs.code.Scan.{Inner, Placed, Looking, Fresh}
@@ -29,11 +31,38 @@ before : (c : In-Some) (net : Network)
 before c net a = rw (entry_some c.in-Some.ensures) at (c.loop-j.invariant net a)
 
 at-arc : (c : In-Some)
-    → Looking c.args.self.next.now c.args.self.to.now c.loop-j.tree c.search.i c.in-Some.j
+    → Looking c.args.self.arcs.now.next c.args.self.arcs.now.to c.loop-j.tree c.search.i c.in-Some.j
 at-arc c = looking c.requires.1.ready (before c c.requires.0 c.requires.1)
 
-falls : (c : In-Some) → entry_at c.args.self.next.now c.in-Some.j < entry (arc_of c.loop-j.link)
-falls c = omega (arith, (at-arc c).falls, entry_some c.in-Some.ensures)
+-- the links that the code reads there
+abbrev firstRead : In-search → ArcLink
+firstRead c = get_or c.args.self.arcs.now.first (at c.search.tree.node c.search.i) (link_to 0)
+
+abbrev nextRead : In-Some → ArcLink
+nextRead c = get_or c.args.self.arcs.now.next c.in-Some.j (link_to 0)
+
+first-is : (c : In-search) → firstRead c ≡ link_at c.args.self.arcs.now.first (at c.search.tree.node c.search.i)
+first-is c =
+    let arcs = c.args.self.arcs.now in
+    get_or_default arcs.first _ (link_to 0) no_link (omega (arith, arcs.first_length, (at_place c).node))
+
+next-is : (c : In-Some) → nextRead c ≡ link_at c.args.self.arcs.now.next c.in-Some.j
+next-is c =
+    let arcs = c.args.self.arcs.now in
+    get_or_default arcs.next _ (link_to 0) no_link (omega (arith, arcs.next_length, (at-arc c).arc))
+
+falls : (c : In-Some) → entry (arc_of (nextRead c)) < entry (arc_of c.loop-j.link)
+falls c = rw (next-is c) (omega (arith, (at-arc c).falls, entry_some c.in-Some.ensures))
+
+-- what the loop over the arcs keeps, of a network and the link behind arc j
+abbrev Kept : In-Some → Network → SearchTree → ArcLink → Type 0
+Kept c net tree link =
+    Inner net c.args.residual c.args.self.s c.args.self.t tree c.search.i (at c.search.tree.node c.search.i)
+    (entry (arc_of link))
+
+goes-on : (c : In-Some) (net : Network) (tree : SearchTree)
+    → Kept c net tree (link_at c.args.self.arcs.now.next c.in-Some.j) → Kept c net tree (nextRead c)
+goes-on c net tree o = rw (next-is c) o
 
 free-lt : (c : Then-not-contains) → c.loop-j.tree.count < max_nodes
 free-lt c =
@@ -43,10 +72,10 @@ free-lt c =
 
 -- the tree as the code has made it, but for the word of what is reached
 abbrev grownTo : After-min → ℕ → SearchTree
-grownTo c = grown_by c.loop-j.tree c.search.i c.in-Some.j (at c.args.self.to.now c.in-Some.j) c.min.result
+grownTo c = grown_by c.loop-j.tree c.search.i c.in-Some.j (at c.args.self.arcs.now.to c.in-Some.j) c.min.result
 
 fresh : (c : After-min)
-    → Fresh c.args.self.to.now c.args.residual c.loop-j.tree c.search.i c.in-Some.j (grownTo c c.add.result)
+    → Fresh c.args.self.arcs.now.to c.args.residual c.loop-j.tree c.search.i c.in-Some.j (grownTo c c.add.result)
 fresh c =
     record {
       amount = c.min.result;
@@ -62,11 +91,14 @@ search-init c = λ net a. outer_start a.ready c.args.residual _ c.seed-tree.ensu
 pub bounds-tree-i : goal.bounds-tree-i
 bounds-tree-i c = (at_place (goal.at.bounds-tree-i c).In-search).place
 
-pub bounds-first-u : goal.bounds-first-u
-bounds-first-u c = (at_place (goal.at.bounds-first-u c).In-search).node
+pub bounds-arcs-u : goal.bounds-arcs-u
+bounds-arcs-u c = (at_place (goal.at.bounds-arcs-u c).In-search).node
 
 pub loop-j-init : goal.loop-j-init
-loop-j-init c = λ net a. inner_start a.ready (c.search.invariant net a) c.search-test.true
+loop-j-init c =
+    λ net a.
+    rw (first-is (goal.at.loop-j-init c).In-search)
+    (inner_start a.ready (c.search.invariant net a) c.search-test.true)
 
 pub contains-requires : goal.contains-requires
 contains-requires c = (at-arc (goal.at.contains-requires c).In-Some).node
@@ -109,13 +141,14 @@ pub loop-j-preserved-else-x-t : goal.loop-j-preserved-else-x-t
 loop-j-preserved-else-x-t c =
     let o = before (goal.at.loop-j-preserved-else-x-t c).In-Some in
     let f = fresh (goal.at.loop-j-preserved-else-x-t c).After-min in
-    λ net a. next_new a.ready (o net a) f c.if-x-t.false
+    λ net a.
+    goes-on (goal.at.loop-j-preserved-else-x-t c).In-Some net _ (next_new a.ready (o net a) f c.if-x-t.false)
 
 pub loop-j-preserved-else-d-gt0 : goal.loop-j-preserved-else-d-gt0
 loop-j-preserved-else-d-gt0 c =
+    let here = (goal.at.loop-j-preserved-else-d-gt0 c).In-Some in
     λ net a.
-    next_full a.ready (before (goal.at.loop-j-preserved-else-d-gt0 c).In-Some net a)
-    (omega (arith, c.room-d.ensures, c.if-d-gt0.false))
+    goes-on here net _ (next_full a.ready (before here net a) (omega (arith, c.room-d.ensures, c.if-d-gt0.false)))
 
 pub returns-then-x-t : goal.returns-then-x-t
 returns-then-x-t c =
@@ -134,7 +167,8 @@ loop-j-smaller c = falls (goal.at.loop-j-smaller c).In-Some
 pub loop-j-preserved : goal.loop-j-preserved
 loop-j-preserved c =
     let held = sym c.contains.ensures ∙ c.if-not-contains.false in
-    λ net a. next_held a.ready (before (goal.at.loop-j-preserved c).In-Some net a) held
+    let here = (goal.at.loop-j-preserved c).In-Some in
+    λ net a. goes-on here net _ (next_held a.ready (before here net a) held)
 
 pub search-preserved : goal.search-preserved
 search-preserved c =
