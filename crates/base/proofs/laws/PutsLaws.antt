@@ -30,6 +30,9 @@ pub record Owing {A : Type 0} (before : List A) (place : ℕ) (values : List A) 
   pub fills : sets present next rest ≡ sets before place values
   pub size : length present ≡ length before
 
+pub owing_all : {A : Type 0} (l : List A) (i : ℕ) (xs : List A) → Owing l i xs i xs l
+owing_all l i xs = record { ends = refl; fills = refl; size = refl }
+
 module _ {A : Type 0} {l : List A} {i : ℕ} {xs : List A} where
   -- what is still to be put, said otherwise
   pub owing_same : {j : ℕ} {ys zs m : List A} → ys ≡ zs → Owing l i xs j ys m → Owing l i xs j zs m

@@ -1,5 +1,5 @@
 -- Tests over all places, and lists of tests.
-use Rattle.std.specs.Prelude.{◌≡◌, refl, Bool, true, false, ℕ, zero, suc, ◌+◌, ◌<◌, List, [], ◌∷◌, eqb}
+use Rattle.std.specs.Prelude.{◌≡◌, refl, Bool, true, false, ◌&&◌, ℕ, zero, suc, ◌+◌, ◌<◌, List, [], ◌∷◌, eqb}
 use Rattle.std.proofs.Common.{sym, ◌∙◌, true≢false, arith, add-one, ne_eqb}
 use Rattle.std.proofs.Math.Decide.{ℕ_discrete}
 use Rattle.base.specs.Basics.{all, every}
@@ -60,6 +60,16 @@ rest (e & h) = h
 -- the first test as it was
 pub keep : {x : Bool} {xs ys : List Bool} → (Every xs → Every ys) → Every (x ∷ xs) → Every (x ∷ ys)
 keep f (e & h) = e & f h
+
+-- two tests that were answered together: the tests behind them decide, or these do
+pub pass_two : (x y : Bool) (xs : List Bool) → (x && y) ≡ true → every (x ∷ y ∷ xs) ≡ every xs
+unfolding every
+pass_two x y xs e = rw (and_l x y e, and_r x y e) refl
+
+pub fail_two : (x y : Bool) (xs : List Bool) → (x && y) ≡ false → every (x ∷ y ∷ xs) ≡ false
+unfolding every
+fail_two true y xs e = rw e
+fail_two false y xs e = refl
 
 -- ---- a test of two numbers, turned
 pub eqb_turned : (x y : ℕ) → eqb x y ≡ eqb y x

@@ -15,9 +15,19 @@ use Rattle.base.specs.Basics.{pick, at, among}
 use Rattle.network.specs.Limits.{max_nodes}
 use Rattle.cut_tree.specs.Path.{reaches, Climbs, climb}
 use Rattle.cut_tree.proofs.laws.MemberLaws.{among_head, among_later, among_on}
-use Rattle.cut_tree.specs.code.QueryParts.{climb_to}
+use Rattle.cut_tree.specs.code.QueryParts.{Inside, climb_to}
 
--- ---- staying inside: a node of those that climb to node 0, and its parent
+-- ---- staying inside
+pub inside_lt : {parent : List ℕ} {i : ℕ} → Inside parent i → i < max_nodes
+inside_lt h = let a = h.here in let b = h.small in omega arith
+
+pub inside_next : {parent : List ℕ} {i : ℕ} → Inside parent i → Inside parent (at parent i)
+inside_next {parent} {i} h = record { bound = h.bound; small = h.small; here = h.stays i h.here; stays = h.stays }
+
+pub climbs_inside : {n : ℕ} {parent : List ℕ} → Climbs n parent → (i : ℕ) → i < n → Inside parent i
+climbs_inside {n} h i l = record { bound = n; small = h.small; here = l; stays = h.stays }
+
+-- a node of those that climb to node 0, and its parent
 module _ {n : ℕ} {parent : List ℕ} (h : Climbs n parent) (i : ℕ) (l : i < n) where
   pub rooted_lt : i < max_nodes
   rooted_lt = let a = h.small in omega (arith, l)

@@ -5,6 +5,7 @@ use Rattle.std.proofs.Math.Path.{fun_ext}
 use Rattle.std.proofs.Common.{true, false, refl, sym, subst, ap, ◌∙◌, inl, inr, ⊎_elim, arith, true≢false}
 use Rattle.std.proofs.Common.{eqb-true, eq-eqb, ltb-true, ltb-false}
 use Rattle.std.proofs.Math.Bool.{or-true, or-false}
+use Rattle.std.proofs.Math.Decide.{ℕ_discrete}
 use Rattle.std.specs.Prelude.{ltb, eqb}
 use Rattle.min_cut.specs.FirstWord.{first}
 use Rattle.min_cut.proofs.laws.FirstLaws.{First, first_is, first_some}
@@ -20,6 +21,15 @@ pub record Best (weight : List ℕ) (edges : ℕ → Bool) (b : ℕ) : Type 0 wh
   pub some : (u : ℕ) → edges u ≡ true → b ≡ 0 → ⊥
 
 module _ (weight : List ℕ) where
+  pub one_best : (E : ℕ → Bool) (b c : ℕ) → Best weight E b → Best weight E c → b ≡ c
+  one_best E b c x y = go (ℕ_discrete b 0) (ℕ_discrete c 0)
+    where
+      go : Dec (b ≡ 0) → Dec (c ≡ 0) → b ≡ c
+      go (yes p) (yes q) = p ∙ sym q
+      go (yes p) (no q) = absurd (x.some c (y.here q).lightest.is_on_path p)
+      go (no p) (yes q) = absurd (y.some b (x.here p).lightest.is_on_path q)
+      go (no p) (no q) = one_lightest weight E b c (x.here p) (y.here q)
+
   -- what the definition finds
   pub first_best : (E : ℕ → Bool) (k : ℕ) → E 0 ≡ false → ((u : ℕ) → E u ≡ true → u < k) → Best weight E (first E (at weight) k)
   first_best E k z below = record {

@@ -1,5 +1,5 @@
 -- What holds of the definitions of specs/code/Push.antt.
-use Rattle.std.proofs.Common.{◌≡◌, ◌≢◌, List, ℕ, ◌-◌, ◌<◌, ◌≤◌, sym, ap, ◌∙◌, arith}
+use Rattle.std.proofs.Common.{◌≡◌, refl, ◌≢◌, List, ℕ, ◌-◌, ◌<◌, ◌≤◌, sym, ap, ◌∙◌, arith}
 use Rattle.min_cut.specs.code.Residual.{Pushed}
 use Rattle.min_cut.specs.code.Arcs.{tip}
 use Rattle.base.specs.Basics.{at}
@@ -17,6 +17,16 @@ use Rattle.max_flow.specs.code.Push.{Half, OnPath, Sending}
 module _ {net : Network} {s : ℕ} {r : List (List ℕ)} {w : SearchTree} {d : ℕ} (a : Sending net s r w d) where
   f : TreeFrom net r s w
   f = a.tree
+
+  pub half_start : Half net r w d (w.count - 1) r
+  half_start =
+      record {
+        pushed = λ X. refl;
+        balanced = a.balanced;
+        here = omega (arith, f.some);
+        enough = a.amount;
+        fits = λ j p q. (f.entered j p (omega (arith, f.some))).fits;
+      }
 
   module _ {i : ℕ} {r' : List (List ℕ)} (o : Half net r w d i r') where
     pub half_end : i ≤ 0 → Sent net s (at w.node (w.count - 1)) d r r'

@@ -39,6 +39,16 @@ module _ {net : Network} {first next : List ArcLink} {to : List ℕ} {s t : ℕ}
       })
 
   module _ {r : List (List ℕ)} {w : SearchTree} {i : ℕ} (o : Outer net r s t w i) where
+    pub outer_end : w.count ≤ i → Searched net r s t w
+    outer_end l =
+        record {
+          tree = o.tree;
+          hit = λ q. absurd (true≢false (sym q ∙ o.missed));
+          miss = λ q e el z y.
+              let k = o.tree.listed (tail (graph net) e) y in
+              o.behind k.0 (omega (arith, k.1)) e el (omega arith) (sym k.2) z;
+        }
+
     pub placed : i < w.count → Placed w i
     placed l =
         record { place = place_lt o.tree h i l; node = node_lt o.tree h i l }

@@ -5,7 +5,7 @@ use Rattle.std.proofs.Math.Decide.{ℕ_discrete}
 use Rattle.min_cut.specs.Cut.{Net}
 use Rattle.base.specs.Word.{holds}
 use Rattle.min_cut.specs.code.Residual.{Pushed}
-use Rattle.min_cut.proofs.code.Residual.{when_add}
+use Rattle.min_cut.proofs.code.Residual.{when_none, when_add}
 use Rattle.min_cut.specs.code.Arcs.{tail, tip, spare, forward}
 use Rattle.network.specs.Limits.{max_arcs}
 use Rattle.network.specs.Network.{network_fits, graph}
@@ -25,6 +25,13 @@ use Rattle.max_flow.specs.declared.send.Load.{Load}
 use Rattle.max_flow.specs.declared.send.Sender.{Sender}
 
 -- ---- the test of an arc
+pub other_lt : (j : ℕ) → j < max_arcs → other_way j < max_arcs
+other_lt j l = go (ℕ_discrete (j % 2) 0)
+  where
+    go : Dec (j % 2 ≡ 0) → other_way j < max_arcs
+    go (yes q) = omega arith
+    go (no q) = omega arith
+
 back_tip : (G : Net) (j : ℕ) → tip G (other_way j) ≡ tail G j
 unfolding tip tail
 back_tip G j = go (ℕ_discrete (j % 2) 0)
@@ -78,7 +85,21 @@ way {net} sender load step {r} a b o e p =
     }
 
 -- ---- what is sent
+-- at t itself
+pub send_there : {net : Network} {t on limit : ℕ} {r : List (List ℕ)} → Balanced net r
+    → Sends net t on t limit limit r r
+send_there b = record { within = omega arith; sent = sent_by b b (λ X. refl); kept = λ e h. omega arith }
+
 module _ {net : Network} {t on u : ℕ} where
+  -- nothing yet
+  pub send_none : {limit : ℕ} {r : List (List ℕ)} → Balanced net r → Sends net t on u limit 0 r r
+  send_none b =
+      record {
+        within = omega arith;
+        sent = sent_by b b (λ X. omega (arith, when_none (X u), when_none (X t)));
+        kept = λ e h. omega arith;
+      }
+
   -- more, of what is left of the limit
   pub send_more : {limit sent left d : ℕ} {r r1 r2 : List (List ℕ)} → Balanced net r
       → Sends net t on u limit sent r r1 → Sends net t on u left d r1 r2 → left ≡ limit - sent

@@ -1,11 +1,13 @@
 -- A number of the file: what is read is what was written, and each of 1 to 3 is given under its condition and no other.
 use Rattle.std.specs.Prelude.{ℕ, zero, suc, ◌+◌, ◌-◌, ◌*◌, ◌/◌, ◌%◌, ◌^◌, ◌≤◌, ◌<◌, ◌≡◌, refl, ◌≢◌, Bool, true, false}
 use Rattle.std.specs.Prelude.{List, [], ◌∷◌, ◌++◌, length, take, ltb, eqb}
-use Rattle.std.proofs.Common.{ap, ap₂, ◌∙◌, arith, pow-suc, lt-ltb, le-ltb, ne_eqb, ltb-true, ltb-false, eqb-true}
+use Rattle.std.proofs.Common.{ap, ap₂, subst, ◌∙◌, arith, pow-suc, eq-eqb, lt-ltb, le-ltb, ne_eqb, ltb-true, ltb-false, eqb-true}
 use Rattle.std.proofs.Math.Nat.{one-le-pow}
 use Rattle.std.proofs.lemmas.Bool.{eqb-false}
 use Rattle.base.specs.Basics.{pick, at}
-use Rattle.network_file.specs.Number.{continued, read_groups, group_bytes, Bytes}
+use Rattle.network.specs.Limits.{max_groups}
+use Rattle.network.specs.Refusals.{zero_group}
+use Rattle.network_file.specs.Number.{continued, read_groups, read_number, group_bytes, Bytes}
 use Rattle.network_file.specs.Faults.{Groups, last, more, Topped, EndsEarly, TooLong, ZeroLast}
 use Rattle.network_file.specs.Number.{Number}
 use Rattle.network_file.specs.Number.{Value, Refused}
@@ -28,6 +30,9 @@ module _ (most v : ℕ) where
   pub more_groups : 128 ≤ v → group_bytes (suc most) v ≡ (128 + v % 128) ∷ group_bytes most (v / 128)
   unfolding group_bytes
   more_groups l = rw (le-ltb v 128 l)
+
+pub continued_zero : (x v size : ℕ) → v ≡ 0 → continued x (Value v size) ≡ Refused zero_group
+continued_zero x v size e = rw (eq-eqb v 0 e)
 
 pub continued_value : (x v size : ℕ) → v ≢ 0 → continued x (Value v size) ≡ Value (x - 128 + 128 * v) (size + 1)
 continued_value x v size n = rw (ne_eqb v 0 n)
@@ -210,3 +215,15 @@ again (last l) b zero h = absurd (omega arith)
 again (last {x} {t} l) b (suc most) h = again_last most x t l
 again (more l n g) b zero h = absurd (omega arith)
 again (more {x} {v} {size} {t} l n g) b (suc most) h = again_more most x v size t l (b 0) n (again g (λ i. b (suc i)) most (omega arith))
+
+pub written_number : (s : List ℕ) (v size : ℕ) → Bytes s → read_number s ≡ Value v size → Again max_groups s v size
+written_number s v size b e = go (seen max_groups s) e
+  where
+    go : {r : Number} → Seen max_groups s r → r ≡ Value v size → Again max_groups s v size
+    go (sees_one h) q = absurd (refused_value q)
+    go (sees_two h) q = absurd (refused_value q)
+    go (sees_three h) q = absurd (refused_value q)
+    go (sees_value {v = w} {size = z} g l) q =
+        let ev : w ≡ v = cc in
+        let ez : z ≡ size = cc in
+        subst (λ (k : ℕ). Again max_groups s v k) ez (subst (λ (u : ℕ). Again max_groups s u z) ev (again g b max_groups l))

@@ -83,6 +83,9 @@ module _ (n : ℕ) (few : n ≤ max_nodes) (weight : List ℕ) where
     pub not_own : is_edge n weight e ≡ false → weights_fit n weight e ≡ false
     not_own f = never_true _ (λ h. true≢false (sym (own h) ∙ f))
 
+    pub not_each : (i : ℕ) → 0 < i → i < n → weight_within e i (at weight i) ≡ false → weights_fit n weight e ≡ false
+    not_each i p l f = never_true _ (λ h. true≢false (sym (each h i p l) ∙ f))
+
     -- ---- and only there
     module _ (z : at weight 0 ≡ 0) (o : is_edge n weight e ≡ true) (h : Each weight e n) where
       all_within : (i : ℕ) → i < n → leb (at weight i) max_value ≡ true
