@@ -5,8 +5,8 @@ ghost use Rattle.network.specs.Limits.{max_nodes};
 use flow_hints::{ArcTable, Hints, Residual};
 use network::Incidence;
 
-// The two that flow is sent between, from s to t, with their network's arcs, the table of these, its full residual
-// capacities and the hints to start with. The network is named in contracts (`OfNetwork`), and not handed over.
+// The two that flow is sent between, from s to t, with the arcs of their network, a table of these, its full residual
+// capacities and hints to start with. The network is named in contracts (`OfNetwork`), and not handed over.
 #[derive(Clone, Copy)]
 pub struct Ends<'a> {
     pub arcs: &'a Incidence,

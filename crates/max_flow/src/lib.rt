@@ -53,8 +53,8 @@ fn augment_net(net: ValidNetwork, s: usize, t: usize, out: &mut [i32]) -> Cut
 }
 
 // The least minimum cut of (s, t) (the paper: the least side), with its value.
-// Kept: what is public asks that s and t are two nodes of the network, as `Ends` does: a caller has them by number, and
-// would show the same where it makes a struct of them.
+// Kept: what is public asks that s and t are two nodes of the network: a caller has them by number, and would show the
+// same where it makes a struct of them.
 pub fn least_min_cut(net: ValidNetwork, s: usize, t: usize) -> Cut
     requires { Endpoints net.network s t }
     ensures { result ≡ least_cut_of net.network s t }

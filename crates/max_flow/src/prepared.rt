@@ -34,9 +34,8 @@ impl Prepared<'_> {
     }
 }
 
-// The least minimum cut of (s, t), for a caller that asks for many of one network and has made once, as `Prepared` has,
-// its full residual capacities and its arcs; the table and the hints to start with may be any. The network is named in
-// the contract, and not handed over.
+// The same for a caller that has made for itself, once, the network's full residual capacities and its arcs; the table
+// and the hints to start with may be any. The network is named in the contract, and not handed over.
 #[tactic(auto, using(network::proofs::laws::NetworkLaws::nodes_le))]
 pub fn least_cut_by(
     full: &Residual,
@@ -46,7 +45,9 @@ pub fn least_cut_by(
     s: usize,
     t: usize,
 ) -> Cut
-    requires { (net : Network) × Ready net arcs.now.first arcs.now.next arcs.now.to s t × (full.now ≡ full_residual net) }
+    requires { (net : Network)
+        × Ready net arcs.now.first arcs.now.next arcs.now.to s t
+        × (full.now ≡ full_residual net) }
     ensures { (net : Network)
         → Ready net arcs.now.first arcs.now.next arcs.now.to s t
         → full.now ≡ full_residual net

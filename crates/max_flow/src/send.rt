@@ -29,9 +29,9 @@ struct Load {
     ghost ring_within: { ring < max_nodes },
 }
 
-// What stays the same while flow is sent on: the network with its arcs, and the sink t.
-// Kept: `Ends` without s, which none of the methods below would read; tried as methods of `Ends`, by value and lent, a
-// cut of a sparse network takes 2 to 3 in 100 longer (docs/BENCHMARKS.md, "Forms").
+// What stays the same while flow is sent on: what is lent of the network, and the sink t.
+// Kept: none of the methods below would read s of `Ends`; tried as methods of `Ends`, by value and lent, a cut of a
+// sparse network takes 2 to 3 in 100 longer (docs/BENCHMARKS.md, "Forms").
 #[derive(Clone, Copy)]
 struct Sender<'a> {
     ends: &'a Ends<'a>,
@@ -47,8 +47,8 @@ fn other_way(j: usize) -> usize
     j + 1 - 2 * (j % 2)
 }
 
-// Kept: three methods ask that the residual capacities are balanced. A struct of which that is a fact holds the flow
-// beside the network and t, and is lent as a whole: each contract would have to say that these two stay the same.
+// Kept: three methods ask that the residual capacities are balanced. They are so in a network that is named in
+// contracts alone, and not handed over, so that no struct can have it as a fact.
 impl Sender<'_> {
     ghost use Rattle.max_flow.specs.code.Sender.{Onward, SendsLoad};
 
