@@ -154,8 +154,8 @@ pub extern "C" fn pamzolit_preview(
         × (count.new ≡ shown.count) × (plan.now ≡ plan.now) }
 {
     let found = plan::preview(*plan, link, capacity, s, t);
-    *count = found.map_or(0, |found| found.count);
     *reply = PairReply::from(found.map(|found| found.pair));
+    *count = found.map_or(0, |found| found.count);
     number_of(&found)
 }
 
