@@ -6,7 +6,7 @@ use Rattle.std.proofs.lemmas.Fmt.{length-decimal-le}
 use Rattle.std.specs.Int.Signed.{lt_z}
 use Rattle.text.specs.Text.{text_of}
 use Rattle.text.specs.code.Columns.{is_negative, tenths_from}
-use Rattle.text.proofs.laws.PlacedLaws.{sign_room, spare_filled, short_filled}
+use Rattle.text.proofs.laws.PlacedLaws.{sign_room, still_blank, spare_filled, short_filled}
 use Rattle.text.proofs.laws.TextLaws.{tenths_text}
 use Rattle.text.proofs.tenths.Goals as goal
 
@@ -26,18 +26,20 @@ pub overflow_sub-out : goal.overflow_sub-out
 overflow_sub-out c =
     let w = c.write_digits-start in
     let m = c.magnitude-m in
-    sign_room m.result w.result w.new.buf m.ensures.most w.ensures.start w.ensures.written w.ensures.before
+    sign_room m.result w.result m.ensures.most w.ensures.start
 
 pub returns-then-z-lt0 : goal.returns-then-z-lt0
 returns-then-z-lt0 c =
     let w = c.write_digits-start in
     let m = c.magnitude-m in
-    short_filled m.result w.result w.new.buf m.ensures.most w.ensures.start w.ensures.written w.ensures.before
+    short_filled m.result w.result w.new.buf m.ensures.most w.ensures.start w.ensures.written
+    (still_blank m.result w.result w.new.buf (grind arith) w.ensures.before)
     ∙ text_is _ m.ensures.value m.ensures.most c.if-z-lt0.true ∙ ap text_of (to_z-of_z c.ranges.z)
 
 pub returns-else-z-lt0 : goal.returns-else-z-lt0
 returns-else-z-lt0 c =
     let w = c.write_digits-start in
     let m = c.magnitude-m in
-    spare_filled m.result w.result w.new.buf m.ensures.most w.ensures.start w.ensures.written w.ensures.before
+    spare_filled m.result w.result w.new.buf m.ensures.most w.ensures.start w.ensures.written
+    (still_blank m.result w.result w.new.buf (grind arith) w.ensures.before)
     ∙ text_is _ m.ensures.value m.ensures.most c.if-z-lt0.false ∙ ap text_of (to_z-of_z c.ranges.z)
