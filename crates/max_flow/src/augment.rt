@@ -45,11 +45,11 @@ impl Ends<'_> {
     // Flow is sent until no search reaches t. `total` is carried along and raised by each improvement: at every turn it
     // is what leaves s less what enters s, of the flow that `flow` holds (`Flowing`). What was reached at the end is
     // the least minimum cut, and what each link carries is written to `out`, as far as that has places.
-    pub(crate) fn augment(self, out: &mut [i32]) -> Cut
-        requires { (net : Network) × OfNetwork net self × (length out.old ≤ net.links) }
+    pub(crate) fn augment(&self, out: &mut [i32]) -> Cut
+        requires { (net : Network) × OfNetwork net self.now × (length out.old ≤ net.links) }
         ensures { (net : Network)
-            → OfNetwork net self.entry
-            → Augmented net self.entry.s self.entry.t result out.old out.new }
+            → OfNetwork net self.now
+            → Augmented net self.now.s self.now.t result out.old out.new }
     {
         let mut flow = Flow {
             residual: *self.full,

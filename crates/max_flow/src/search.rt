@@ -45,13 +45,11 @@ impl Ends<'_> {
     // Breadth first, until t is reached. The places before i are done: what their arcs lead to is reached.
     // Kept: the project asks for nested loops here, left by a label at the first arc that reaches t; the tree grows as
     // its places are gone over, so no range names them.
-    pub(crate) fn search(self, residual: Residual) -> SearchTree
-        requires { (net : Network) × OfNetwork net self }
-        ensures { (net : Network)
-            → OfNetwork net self.entry
-            → Searched net residual self.entry.s self.entry.t result }
+    pub(crate) fn search(&self, residual: Residual) -> SearchTree
+        requires { (net : Network) × OfNetwork net self.now }
+        ensures { (net : Network) → OfNetwork net self.now → Searched net residual self.now.s self.now.t result }
     {
-        let Ends { arcs, s, t, .. } = self;
+        let Ends { arcs, s, t, .. } = *self;
         let mut tree = seed(s);
         let mut i: usize = 0;
         'search: while i < tree.count {

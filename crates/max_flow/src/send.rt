@@ -162,16 +162,18 @@ impl Sender<'_> {
 impl Ends<'_> {
     // Flow is sent from s to t in phases, as long as the hints find a way. `total` is that of the flow which `flow`
     // holds; each phase raises it by what it sends, and the result is that of the flow then.
-    pub(crate) fn send_all(self, flow: &mut Flow, total: u32) -> u32
-        requires { (net : Network) × OfNetwork net self × Flowing net self.s self.t total flow.old.residual }
+    pub(crate) fn send_all(&self, flow: &mut Flow, total: u32) -> u32
+        requires { (net : Network)
+            × OfNetwork net self.now
+            × Flowing net self.now.s self.now.t total flow.old.residual }
         ensures lower_bound { total ≤ result }
         ensures flowing { (net : Network)
-            → OfNetwork net self.entry
-            → Flowing net self.entry.s self.entry.t total flow.old.residual
-            → Flowing net self.entry.s self.entry.t result flow.new.residual }
+            → OfNetwork net self.now
+            → Flowing net self.now.s self.now.t total flow.old.residual
+            → Flowing net self.now.s self.now.t result flow.new.residual }
     {
-        let Ends { s, t, .. } = self;
-        let sender = Sender { ends: &self, t };
+        let Ends { s, t, .. } = *self;
+        let sender = Sender { ends: self, t };
         let mut raised = total;
         for _ in 0..MAX_NODES {
             let Some(ring) = flow.hints.sweep(s, t) else {

@@ -15,8 +15,8 @@ use Rattle.max_flow.proofs.ends.Ends.augment.Goals.{After-push-flow, After-send_
 
 -- the flow after the phases, of a network that the contract names
 after : (c : After-send_all-total) (net : Network)
-    → OfNetwork net c.args.self
-    → Flowing net c.args.self.s c.args.self.t c.send_all-total.result c.send_all-total.new.flow.residual
+    → OfNetwork net c.args.self.now
+    → Flowing net c.args.self.now.s c.args.self.now.t c.send_all-total.result c.send_all-total.new.flow.residual
 after c net a = c.send_all-total.ensures.flowing net a (c.loop-flow.invariant.1 net a)
 
 pub loop-flow-init : goal.loop-flow-init
@@ -61,19 +61,19 @@ pub push-flow-requires : goal.push-flow-requires
 push-flow-requires c =
     let p = c.requires in
     let f = after (goal.at.push-flow-requires c).After-send_all-total p.0 p.1 in
-    (p.0, c.args.self.s, sending p.1.ready.ends f (c.search-tree.ensures p.0 p.1) (omega arith))
+    (p.0, c.args.self.now.s, sending p.1.ready.ends f (c.search-tree.ensures p.0 p.1) (omega arith))
 
 -- the flow after the path
 grown : (c : After-push-flow) (net : Network)
-    → OfNetwork net c.args.self
-    → Growth net c.args.self.s c.args.self.t c.send_all-total.result
+    → OfNetwork net c.args.self.now
+    → Growth net c.args.self.now.s c.args.self.now.t c.send_all-total.result
     (at c.search-tree.result.bottleneck (c.search-tree.result.count - 1))
     c.push-flow.result
 grown c net a =
     let f = c.send_all-total.ensures.flowing net a (c.loop-flow.invariant.1 net a) in
     let o = c.search-tree.ensures net a in
     grows a.ready.ends f o (sym c.contains.ensures ∙ c.if-not-contains.false)
-    (c.push-flow.ensures net c.args.self.s (sending a.ready.ends f o (omega arith)))
+    (c.push-flow.ensures net c.args.self.now.s (sending a.ready.ends f o (omega arith)))
 
 pub overflow_add-total : goal.overflow_add-total
 overflow_add-total c =

@@ -25,30 +25,30 @@ at_place c =
     placed p.1.ready (c.search.invariant p.0 p.1) c.search-test.true
 
 before : (c : In-Some) (net : Network)
-    → OfNetwork net c.args.self
-    → Inner net c.args.residual c.args.self.s c.args.self.t c.loop-j.tree c.search.i
+    → OfNetwork net c.args.self.now
+    → Inner net c.args.residual c.args.self.now.s c.args.self.now.t c.loop-j.tree c.search.i
     (at c.search.tree.node c.search.i) (suc c.in-Some.j)
 before c net a = rw (entry_some c.in-Some.ensures) at (c.loop-j.invariant net a)
 
 at-arc : (c : In-Some)
-    → Looking c.args.self.arcs.now.next c.args.self.arcs.now.to c.loop-j.tree c.search.i c.in-Some.j
+    → Looking c.args.self.now.arcs.now.next c.args.self.now.arcs.now.to c.loop-j.tree c.search.i c.in-Some.j
 at-arc c = looking c.requires.1.ready (before c c.requires.0 c.requires.1)
 
 -- the links that the code reads there
 abbrev firstRead : In-search → ArcLink
-firstRead c = get_or c.args.self.arcs.now.first (at c.search.tree.node c.search.i) (link_to 0)
+firstRead c = get_or c.args.self.now.arcs.now.first (at c.search.tree.node c.search.i) (link_to 0)
 
 abbrev nextRead : In-Some → ArcLink
-nextRead c = get_or c.args.self.arcs.now.next c.in-Some.j (link_to 0)
+nextRead c = get_or c.args.self.now.arcs.now.next c.in-Some.j (link_to 0)
 
-first-is : (c : In-search) → firstRead c ≡ link_at c.args.self.arcs.now.first (at c.search.tree.node c.search.i)
+first-is : (c : In-search) → firstRead c ≡ link_at c.args.self.now.arcs.now.first (at c.search.tree.node c.search.i)
 first-is c =
-    let arcs = c.args.self.arcs.now in
+    let arcs = c.args.self.now.arcs.now in
     get_or_default arcs.first _ (link_to 0) no_link (omega (arith, arcs.first_length, (at_place c).node))
 
-next-is : (c : In-Some) → nextRead c ≡ link_at c.args.self.arcs.now.next c.in-Some.j
+next-is : (c : In-Some) → nextRead c ≡ link_at c.args.self.now.arcs.now.next c.in-Some.j
 next-is c =
-    let arcs = c.args.self.arcs.now in
+    let arcs = c.args.self.now.arcs.now in
     get_or_default arcs.next _ (link_to 0) no_link (omega (arith, arcs.next_length, (at-arc c).arc))
 
 falls : (c : In-Some) → entry (arc_of (nextRead c)) < entry (arc_of c.loop-j.link)
@@ -57,11 +57,11 @@ falls c = rw (next-is c) (omega (arith, (at-arc c).falls, entry_some c.in-Some.e
 -- what the loop over the arcs keeps, of a network and the link behind arc j
 abbrev Kept : In-Some → Network → SearchTree → ArcLink → Type 0
 Kept c net tree link =
-    Inner net c.args.residual c.args.self.s c.args.self.t tree c.search.i (at c.search.tree.node c.search.i)
+    Inner net c.args.residual c.args.self.now.s c.args.self.now.t tree c.search.i (at c.search.tree.node c.search.i)
     (entry (arc_of link))
 
 goes-on : (c : In-Some) (net : Network) (tree : SearchTree)
-    → Kept c net tree (link_at c.args.self.arcs.now.next c.in-Some.j) → Kept c net tree (nextRead c)
+    → Kept c net tree (link_at c.args.self.now.arcs.now.next c.in-Some.j) → Kept c net tree (nextRead c)
 goes-on c net tree o = rw (next-is c) o
 
 free-lt : (c : Then-not-contains) → c.loop-j.tree.count < max_nodes
@@ -72,10 +72,10 @@ free-lt c =
 
 -- the tree as the code has made it, but for the word of what is reached
 abbrev grownTo : After-min → ℕ → SearchTree
-grownTo c = grown_by c.loop-j.tree c.search.i c.in-Some.j (at c.args.self.arcs.now.to c.in-Some.j) c.min.result
+grownTo c = grown_by c.loop-j.tree c.search.i c.in-Some.j (at c.args.self.now.arcs.now.to c.in-Some.j) c.min.result
 
 fresh : (c : After-min)
-    → Fresh c.args.self.arcs.now.to c.args.residual c.loop-j.tree c.search.i c.in-Some.j (grownTo c c.add.result)
+    → Fresh c.args.self.now.arcs.now.to c.args.residual c.loop-j.tree c.search.i c.in-Some.j (grownTo c c.add.result)
 fresh c =
     record {
       amount = c.min.result;

@@ -15,9 +15,9 @@ send-d-requires c =
 
 -- the flow after one phase more, and its total
 phase : (c : After-send-d) (net : Network)
-    → OfNetwork net c.args.self
-    → Flowing net c.args.self.s c.args.self.t c.args.total c.args.flow.now.residual
-    → Flowing net c.args.self.s c.args.self.t (c.loop.raised + c.send-d.result)
+    → OfNetwork net c.args.self.now
+    → Flowing net c.args.self.now.s c.args.self.now.t c.args.total c.args.flow.now.residual
+    → Flowing net c.args.self.now.s c.args.self.now.t (c.loop.raised + c.send-d.result)
     c.send-d.new.flow.residual
 phase c net a f =
     let g = c.loop.invariant.1 net a f in
