@@ -7,6 +7,7 @@ use Rattle.cut_tree.proofs.lightest.lightest_edge.Goals.{In-Some}
 -- what is found is a node, and its edge the lightest
 found : (c : In-Some) → (c.in-Some.best < c.args.n) × IsLightest c.args.weight.now c.args.n c.in-Some.best
 found c = first_lightest c.args.weight.now _ _ c.requires c.in-Some.ensures.ran (λ x k q h. search rules)
+    (λ x k q h y l r i. grind (arith, h, i))
 
 pub overflow_cast-result : goal.overflow_cast-result
 overflow_cast-result c = omega (arith, c.requires, (found c).0)
