@@ -31,7 +31,7 @@
  *   - size_t has 64 bits: the assertions at the end test it, and the layout.
  *
  * Capacities, weights, demands, headrooms and flows are tenths of a megabit per second. A set of nodes is a word, bit i
- * for node i. A call took at most 62 KB of stack where it was measured (`bench/run memory`); that is not proved.
+ * for node i. A call took at most 60 KB of stack where it was measured (`bench/run memory`); that is not proved.
  */
 #ifndef PAMZOLIT_H
 #define PAMZOLIT_H
