@@ -30,7 +30,8 @@ InOrder weight x k y l = (k ≤ l → at weight x ≤ at weight y) × (l < k →
 
 module _ {F : Type 0} (g : Mut F (Bor ℕ × Unit {0}) ℕ) (f : F) (weight : List ℕ)
     (stays : (x k : ℕ) (q : F) → CalledAt g f x k q → q ≡ f)
-    (orders : (x k : ℕ) (q : F) → CalledAt g f x k q → (y l : ℕ) (r : F) → CalledAt g f y l r → InOrder weight x k y l) where
+    (orders : (x k : ℕ) (q : F) → CalledAt g f x k q → (y l : ℕ) (r : F) → CalledAt g f y l r
+    → InOrder weight x k y l) where
   -- what the closure gives for node x
   record IsKey (x k : ℕ) : Type 0 where
     pub left : F

@@ -1,6 +1,7 @@
 -- Laws of the incidence lists: how they grow link by link, and what a walk along a chain meets.
 use Rattle.std.proofs.Common.{◌≡◌, refl, ◌≢◌, true, set, length, replicate, sym, ap, ◌∙◌, length-set, get_or-set_same}
-use Rattle.std.proofs.Common.{map, get_or-set_other, eq-eqb, ne_eqb, List, [], ◌∷◌, ℕ, zero, suc, ◌+◌, ◌-◌, ◌*◌, ◌<◌, ◌≤◌, arith}
+use Rattle.std.proofs.Common.{map, get_or-set_other, eq-eqb, ne_eqb, List, [], ◌∷◌, ℕ, zero, suc, ◌+◌, ◌-◌, ◌*◌}
+use Rattle.std.proofs.Common.{◌<◌, ◌≤◌, arith}
 use Rattle.std.proofs.Math.Decide.{ℕ_discrete}
 use Rattle.min_cut.specs.Cut.{Net}
 use Rattle.min_cut.specs.code.Arcs.{tail, tip}

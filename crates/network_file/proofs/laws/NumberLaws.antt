@@ -1,7 +1,8 @@
 -- A number of the file: what is read is what was written, and each of 1 to 3 is given under its condition and no other.
 use Rattle.std.specs.Prelude.{ℕ, zero, suc, ◌+◌, ◌-◌, ◌*◌, ◌/◌, ◌%◌, ◌^◌, ◌≤◌, ◌<◌, ◌≡◌, refl, ◌≢◌, Bool, true, false}
 use Rattle.std.specs.Prelude.{List, [], ◌∷◌, ◌++◌, length, take, ltb, eqb}
-use Rattle.std.proofs.Common.{ap, ap₂, subst, ◌∙◌, arith, pow-suc, eq-eqb, lt-ltb, le-ltb, ne_eqb, ltb-true, ltb-false, eqb-true}
+use Rattle.std.proofs.Common.{ap, ap₂, subst, ◌∙◌, arith, pow-suc, eq-eqb, lt-ltb, le-ltb, ne_eqb, ltb-true}
+use Rattle.std.proofs.Common.{ltb-false, eqb-true}
 use Rattle.std.proofs.Math.Nat.{one-le-pow}
 use Rattle.std.proofs.lemmas.Bool.{eqb-false}
 use Rattle.base.specs.Basics.{pick, at}
@@ -226,4 +227,5 @@ written_number s v size b e = go (seen max_groups s) e
     go (sees_value {v = w} {size = z} g l) q =
         let ev : w ≡ v = cc in
         let ez : z ≡ size = cc in
-        subst (λ (k : ℕ). Again max_groups s v k) ez (subst (λ (u : ℕ). Again max_groups s u z) ev (again g b max_groups l))
+        subst (λ (k : ℕ). Again max_groups s v k) ez
+        (subst (λ (u : ℕ). Again max_groups s u z) ev (again g b max_groups l))

@@ -64,4 +64,5 @@ module _ (m s : ℕ) (out : List ℕ) (l : m ≤ 2 ^ 31) (e : s + length (fmt.de
       let one : suc (s - 1) ≡ s = omega (arith, sign_room m s l e) in
       ap (λ (xs : List ℕ). set xs (s - 1) 45) (filled ∙ ap (λ (k : ℕ). replicate k 32 ++ text) (sym one))
       ∙ put_minus (s - 1) text
-      ∙ ap (λ (k : ℕ). replicate k 32 ++ (45 ∷ text)) (omega (arith, size, sign_room m s l e)) ∙ sym (tenths_by m true l)
+      ∙ ap (λ (k : ℕ). replicate k 32 ++ (45 ∷ text)) (omega (arith, size, sign_room m s l e))
+      ∙ sym (tenths_by m true l)
