@@ -7,7 +7,7 @@ ghost use Rattle.cut_tree.specs.Rule.{StepCut, no_tree, no_steps, rule, rule_by}
 
 use crate::keep::Change;
 use crate::{Built, Recorded, Steps, Tree};
-use max_flow::{ArcTable, Cut, Hints, Prepared, full_residual};
+use max_flow::{ArcTable, Cut, Hints, PreparedRef, full_residual};
 use network::{MAX_NODES, ValidNetwork, incidence_of};
 
 impl Tree {
@@ -65,7 +65,7 @@ fn worked_out<F: Fn(usize, usize) -> Option<Cut>>(net: ValidNetwork, kept: F) ->
     table.fill(net);
     let full = full_residual(net);
     let hints = Hints::start(net);
-    let prepared = Prepared {
+    let prepared = PreparedRef {
         net: &net,
         arcs: &arcs,
         table: &table,

@@ -9,6 +9,8 @@ mod prepared; // what the cuts of one network share
 mod residual; // residual capacities
 mod search; // the search for an augmenting path
 mod send; // flow sent in phases, along the hints
+#[cfg(test)]
+mod tests; // a network prepared and asked
 
 ghost use Rattle.std.specs.Prelude.{length, ◌≡◌, ◌≤◌};
 ghost use Rattle.max_flow.specs.code.Augment.{Augmented};
@@ -16,7 +18,7 @@ ghost use Rattle.max_flow.specs.LargestFlow.{LargestFlow};
 ghost use Rattle.max_flow.specs.LeastCut.{Endpoints, least_cut_of};
 
 use crate::ends::Ends;
-pub use crate::prepared::{Prepared, least_cut_by};
+pub use crate::prepared::{Prepared, PreparedRef, least_cut_by};
 pub use crate::residual::full_residual;
 pub use flow_hints::{ArcTable, Hints};
 use network::{ValidNetwork, incidence_of};
@@ -30,7 +32,7 @@ pub struct Cut {
 
 // The least minimum cut of (s, t), and a flow of its value: a number for each link, where `out` has that many places.
 // Which flow is left open.
-#[tactic(auto, using(network::proofs::laws::NetworkLaws::nodes_le))]
+#[tactic(auto, using(network::proofs::laws::NetworkLaws::nodes_le, crate::proofs::code::Scan::two_of))]
 fn augment_net(net: ValidNetwork, s: usize, t: usize, out: &mut [i32]) -> Cut
     requires endpoints { Endpoints net.network s t }
     requires out_len { length out.old ≤ net.network.links }

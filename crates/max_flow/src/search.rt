@@ -46,7 +46,6 @@ impl Ends<'_> {
     // Kept: the project asks for nested loops here, left by a label at the first arc that reaches t; the tree grows as
     // its places are gone over, so no range names them.
     pub(crate) fn search(&self, residual: Residual) -> SearchTree
-        requires { (net : Network) × OfNetwork net self.now }
         ensures { (net : Network) → OfNetwork net self.now → Searched net residual self.now.s self.now.t result }
     {
         let Ends { arcs, s, t, .. } = *self;

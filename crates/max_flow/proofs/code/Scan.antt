@@ -2,6 +2,7 @@
 use Rattle.std.proofs.Common.{◌≡◌, refl, true, false, List, [], ℕ, suc, ◌+◌, ◌*◌, ◌/◌, ◌%◌, ◌<◌, ◌≤◌, get_or, sym, ap}
 use Rattle.std.proofs.Common.{subst, ◌∙◌, true≢false, arith}
 use Rattle.std.proofs.Math.Decide.{ℕ_discrete, dec_lt}
+use Rattle.std.proofs.Math.Logic.{∥∥₁_map}
 use Rattle.base.specs.Word.{holds}
 use Rattle.min_cut.specs.code.Arcs.{tail, tip}
 use Rattle.base.specs.Basics.{at}
@@ -13,13 +14,24 @@ use Rattle.network.specs.declared.Network.{Network}
 use Rattle.network.specs.declared.arc_link.ArcLink.{ArcLink}
 use Rattle.node_set.specs.Set.{empty, added}
 use Rattle.node_set.proofs.theorems.Members.{holds_empty, added_same, added_other}
-use Rattle.max_flow.specs.code.Residuals.{room_on}
+use Rattle.max_flow.specs.code.Residuals.{full_residual, room_on}
 use Rattle.max_flow.proofs.laws.ResidualLaws.{spare_read}
 use Rattle.max_flow.specs.code.Search.{seed_of, Ready, Searched}
 use Rattle.max_flow.proofs.laws.SearchLaws.{Visited, visited_old, visited_new}
 use Rattle.max_flow.proofs.laws.SearchLaws.{seed_tree, inside, place_lt, node_lt, free, tip_lt}
+use Rattle.max_flow.specs.declared.ends.Ends.{Ends}
 use Rattle.max_flow.specs.declared.search.SearchTree.{SearchTree}
+use Rattle.max_flow.specs.code.Ends.{OfNetwork}
 use Rattle.max_flow.specs.code.Scan.{Done, Fresh, Inner, Looking, Outer, Placed}
+
+-- the fact of `Ends`, of a network at hand; and what it says, in the words of contracts
+pub two_of : {net : Network} {first next : List ArcLink} {to : List ℕ} {s t : ℕ} {full : List (List ℕ)}
+    → Ready net first next to s t → full ≡ full_residual net
+    → ∥ ((net : Network) × Ready net first next to s t × (full ≡ full_residual net)) ∥₁
+two_of {net} a e = ∣ (net, a, e) ∣₁
+
+pub ready : (ends : Ends) → ∥ ((net : Network) × OfNetwork net ends) ∥₁
+ready ends = ∥∥₁_map ends.two (λ p. (p.0, record { ready = p.1; unsent = p.2 }))
 
 module _ {net : Network} {first next : List ArcLink} {to : List ℕ} {s t : ℕ} (a : Ready net first next to s t) where
   h : network_fits net ≡ true

@@ -27,9 +27,6 @@ send_all-total-requires c =
     let p = c.requires in
     (p.0, p.1, c.loop-flow.invariant.1 p.0 p.1)
 
-pub search-tree-requires : goal.search-tree-requires
-search-tree-requires c = (c.requires.0, c.requires.1)
-
 pub write_flow-requires : goal.write_flow-requires
 write_flow-requires c =
     let p = c.requires in

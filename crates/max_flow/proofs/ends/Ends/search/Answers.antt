@@ -2,6 +2,8 @@
 -- done. Each turn over the places ends one; a chain of arcs falls.
 use Rattle.std.proofs.Common.{◌≡◌, suc, sym, ap, ◌∙◌, ℕ, ◌<◌, get_or, arith}
 use Rattle.std.proofs.lemmas.List.{get_or_default}
+use Rattle.std.proofs.Math.Logic.{∥∥₁_elim}
+use Rattle.std.proofs.Props.{props}
 use Rattle.base.specs.Basics.{at}
 use Rattle.network.specs.Limits.{max_nodes}
 use Rattle.network.specs.code.ArcLinks.{no_link, link_to, link_at, arc_of, entry}
@@ -11,7 +13,7 @@ use Rattle.network.specs.declared.arc_link.ArcLink.{ArcLink}
 use Rattle.max_flow.specs.code.Ends.{OfNetwork}
 use Rattle.max_flow.specs.code.Search.{grown_by}
 use Rattle.max_flow.specs.code.Scan.{Inner, Placed, Looking, Fresh}
-use Rattle.max_flow.proofs.code.Scan.{outer_start, outer_next, placed}
+use Rattle.max_flow.proofs.code.Scan.{ready, outer_start, outer_next, placed}
 use Rattle.max_flow.proofs.code.Scan.{inner_start, looking, next_full, next_held, next_new, hit_new}
 use Rattle.max_flow.specs.declared.search.SearchTree.{SearchTree}
 use Rattle.max_flow.proofs.ends.Ends.search.Goals as goal
@@ -21,8 +23,8 @@ use Rattle.max_flow.proofs.ends.Ends.search.Goals.{After-min, In-Some, In-search
 -- loop keeps, of that arc
 at_place : (c : In-search) → Placed c.search.tree c.search.i
 at_place c =
-    let p = c.requires in
-    placed p.1.ready (c.search.invariant p.0 p.1) c.search-test.true
+    ∥∥₁_elim (ready c.args.self.now) (hlevel props)
+    (λ p. placed p.1.ready (c.search.invariant p.0 p.1) c.search-test.true)
 
 before : (c : In-Some) (net : Network)
     → OfNetwork net c.args.self.now
@@ -32,7 +34,8 @@ before c net a = rw (entry_some c.in-Some.ensures) at (c.loop-j.invariant net a)
 
 at-arc : (c : In-Some)
     → Looking c.args.self.now.arcs.now.next c.args.self.now.arcs.now.to c.loop-j.tree c.search.i c.in-Some.j
-at-arc c = looking c.requires.1.ready (before c c.requires.0 c.requires.1)
+at-arc c =
+    ∥∥₁_elim (ready c.args.self.now) (hlevel props) (λ p. looking p.1.ready (before c p.0 p.1))
 
 -- the links that the code reads there
 abbrev firstRead : In-search → ArcLink
@@ -66,9 +69,10 @@ goes-on c net tree o = rw (next-is c) o
 
 free-lt : (c : Then-not-contains) → c.loop-j.tree.count < max_nodes
 free-lt c =
-    let p = c.requires in
+    ∥∥₁_elim (ready c.args.self.now) (hlevel props)
+    (λ p.
     let o = rw (entry_some c.in-Some.ensures) at (c.loop-j.invariant p.0 p.1) in
-    (looking p.1.ready o).free (sym c.contains.ensures ∙ c.if-not-contains.true)
+    (looking p.1.ready o).free (sym c.contains.ensures ∙ c.if-not-contains.true))
 
 -- the tree as the code has made it, but for the word of what is reached
 abbrev grownTo : After-min → ℕ → SearchTree
