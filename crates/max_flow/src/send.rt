@@ -47,8 +47,8 @@ fn other_way(j: usize) -> usize
     j + 1 - 2 * (j % 2)
 }
 
-// Kept: three methods ask that the residual capacities are balanced. They are so in a network that is named in
-// contracts alone, and not handed over, so that no struct can have it as a fact.
+// Kept: three methods ask that the residual capacities are balanced. They are so in the network that contracts
+// name, which is not handed over: of a struct that could only be a fact of some network.
 impl Sender<'_> {
     ghost use Rattle.max_flow.specs.code.Sender.{Onward, SendsLoad};
 
